@@ -1,0 +1,20 @@
+-- `scratch::align_to` meets its contract, by the two cases of a rounding.
+use borrow.Author.Needs.{needs}
+use native.Mathlib.Omega.{arith}
+use native.Mathlib.Nat.{mod-lt}
+use Rattle.scratch.proofs.Laws.{round-none, round-more}
+use Rattle.scratch.proofs.align_to.Statement.{statement}
+use Rattle.scratch.proofs.align_to.Tie as tie
+
+returns : tie.Need-returns
+returns c = omega (arith, round-none _ _ (c .before .pre) (c .if1 .taken))
+
+sub-saturating-add : tie.Need-sub-saturating-add
+sub-saturating-add c = omega (arith, mod-lt (c .before .args .size) (c .before .pre))
+
+returns-2 : tie.Need-returns-2
+returns-2 c = omega (arith, round-more _ _ (c .before .before .pre) (c .before .if1 .left))
+
+pub align-to-spec : {M : Type 1} → statement M
+align-to-spec =
+    tie.close (tie.spec (λ c. search needs) returns sub-saturating-add (λ c κs. search needs) returns-2)

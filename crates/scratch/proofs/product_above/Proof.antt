@@ -1,0 +1,14 @@
+-- `scratch::product_above` meets its contract: the test by division is the test of the product.
+use borrow.Author.Needs.{needs}
+use Rattle.scratch.proofs.Laws.{product-test, product-test-none}
+use Rattle.scratch.proofs.product_above.Statement.{statement}
+use Rattle.scratch.proofs.product_above.Tie as tie
+
+returns : tie.Need-returns
+returns c = product-test-none _ _ _ (c .if1 .taken)
+
+returns-2 : tie.Need-returns-2
+returns-2 c = product-test _ _ _ (c .if1 .left)
+
+pub product-above-spec : {M : Type 1} → statement M
+product-above-spec = tie.close (tie.spec returns (λ c. search needs) returns-2)
