@@ -14,14 +14,14 @@ use Rattle.scratch.specs.Scratch.{stopped, roundUp, addRounded}
 pub product-none : (a b : ℕ) → b ≡ 0 → a * b ≡ 0
 product-none a b e = rw e (mul-zero a)
 
-pub product-fits : (a b n : ℕ) → (b ≡ 0 → ⊥) → a ≤ n / b → a * b ≤ n
-product-fits a b n h l = le-div-iff-mul-le {k = b} (omega (arith, h)) .0 l
+pub product-fits : (a b n : ℕ) → 0 < b → a ≤ n / b → a * b ≤ n
+product-fits a b n h l = le-div-iff-mul-le h .0 l
 
-pub product-over : (a b n : ℕ) → (b ≡ 0 → ⊥) → n / b < a → n < a * b
-product-over a b n h l = div-lt-iff-lt-mul {k = b} (omega (arith, h)) .0 l
+pub product-over : (a b n : ℕ) → 0 < b → n / b < a → n < a * b
+product-over a b n h l = div-lt-iff-lt-mul h .0 l
 
 -- the test by division is the test of the product
-pub product-test : (a b n : ℕ) → (b ≡ 0 → ⊥) → ltb (n / b) a ≡ ltb n (a * b)
+pub product-test : (a b n : ℕ) → 0 < b → ltb (n / b) a ≡ ltb n (a * b)
 product-test a b n h = go (ltb (n / b) a) refl
   where
     go : (t : Bool) → ltb (n / b) a ≡ t → t ≡ ltb n (a * b)
@@ -34,6 +34,12 @@ product-test-none a b n e = sym (le-ltb n (a * b) (omega (arith, product-none a 
 -- ---- rounding
 
 module _ (n a : ℕ) (h : 1 ≤ a) where
+  pub round-above : n ≤ roundUp n a
+  round-above = omega (arith, div-add-mod' (n + (a - 1)) a, mod-lt (n + (a - 1)) h)
+
+  pub round-below : roundUp n a < n + a
+  round-below = omega (arith, div-add-mod' (n + (a - 1)) a)
+
   -- n is a multiple of a already
   pub round-none : n % a ≡ 0 → roundUp n a ≡ n
   round-none e =
@@ -41,17 +47,11 @@ module _ (n a : ℕ) (h : 1 ≤ a) where
       rw q (omega (arith, div-add-mod' n a))
 
   -- n is n % a past a multiple of a
-  pub round-more : (n % a ≡ 0 → ⊥) → roundUp n a ≡ n + (a - n % a)
+  pub round-more : 0 < n % a → roundUp n a ≡ n + (a - n % a)
   round-more e =
       let l : n % a < a = mod-lt n h in
-      let q : (n + (a - 1)) / a ≡ n / a + 1 = div-eq-of-lt-le a (omega (arith, div-add-mod' n a, e)) (omega (arith, div-add-mod' n a)) in
+      let q : (n + (a - 1)) / a ≡ n / a + 1 = div-eq-of-lt-le a (omega (arith, div-add-mod' n a)) (omega (arith, div-add-mod' n a)) in
       rw q (omega (arith, div-add-mod' n a))
-
-  pub round-above : n ≤ roundUp n a
-  round-above = omega (arith, div-add-mod' (n + (a - 1)) a, mod-lt (n + (a - 1)) h)
-
-  pub round-below : roundUp n a < n + a
-  round-below = omega (arith, div-add-mod' (n + (a - 1)) a)
 
 pub round-multiple : (n a : ℕ) → roundUp n a % a ≡ 0
 round-multiple n a = mul-mod-left ((n + (a - 1)) / a) a

@@ -7,13 +7,17 @@ use Rattle.scratch.proofs.align_to.Statement.{statement}
 use Rattle.scratch.proofs.align_to.Tie as tie
 
 returns : tie.Need-returns
-returns c = omega (arith, round-none _ _ (c .before .pre) (c .if1 .taken))
+returns c =
+    let a = c .before .args in
+    omega (arith, round-none (a .size) (a .alignment) (omega arith) (omega arith))
 
 sub-saturating-add : tie.Need-sub-saturating-add
 sub-saturating-add c = omega (arith, mod-lt (c .before .args .size) (c .before .pre))
 
 returns-2 : tie.Need-returns-2
-returns-2 c = omega (arith, round-more _ _ (c .before .before .pre) (c .before .if1 .left))
+returns-2 c =
+    let a = c .before .before .args in
+    omega (arith, round-more (a .size) (a .alignment) (omega arith) (omega arith))
 
 pub align-to-spec : {M : Type 1} → statement M
 align-to-spec =
