@@ -1,0 +1,36 @@
+-- What the checks of a geometry give: the first cause, or what is asked to be initialised. Assumes nothing.
+use Prim.Native.Nat.{ℕ, _+_}
+use mathlib.Core.Bool.{Bool, true, false, not}
+use mathlib.Core.List.{List, [], _∷_, _++_}
+use lib.Dec.{ltb}
+use Rattle.ray_tracing.specs.declared.Buffer.{Buffer}
+use Rattle.ray_tracing.specs.Causes.{Cause, cause}
+use Rattle.ray_tracing.specs.Guard.{refuse}
+
+infixr 20 _then_
+-- buffer, start and end of each range, in the order asked for; or the first cause
+pub data Checked : Type 0 where
+  asks : List ℕ → Checked
+  refused : Cause → Checked
+
+abbrev pub asksToo : List ℕ → Checked → Checked
+asksToo a (asks b) = asks (a ++ b)
+asksToo a (refused c) = refused c
+
+-- one check after the other
+abbrev pub _then_ : Checked → Checked → Checked
+_then_ (asks a) c = asksToo a c
+_then_ (refused c) d = refused c
+
+-- "Each buffer's initialisation range is its offset up to its offset plus region"
+abbrev pub range : ℕ → ℕ → ℕ → List ℕ
+range buffer offset region = buffer ∷ offset ∷ (offset + region) ∷ []
+
+-- "product or offset above 2^32 - 1"
+abbrev pub limit32 : ℕ
+limit32 = 4294967295
+
+-- 21 destroyed, 22 no BLAS_INPUT, "E, sort (1 buffer, 2 Blas, 3 Tlas), id"
+abbrev pub usable : ℕ → Buffer → Checked → Checked
+usable id b rest =
+    refuse (b .destroyed) (refused (cause 21 1 id 0)) (refuse (not (b .«blas_input»)) (refused (cause 22 1 id 0)) rest)

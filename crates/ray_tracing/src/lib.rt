@@ -1,0 +1,307 @@
+// Ids, the records of lent tables by value, and what the entry points answer. The paper as definitions stands in specs/.
+use wire::u8_at;
+use wire::u16_at;
+use wire::u32_at;
+use wire::u64_at;
+ghost use mathlib.Core.Path.{_≡_};
+ghost use mathlib.Core.Bool.{_&&_, _||_, cond};
+ghost use Prim.Native.Nat.{_+_, _≤_};
+ghost use lib.ListN.{length};
+ghost use Rattle.ray_tracing.specs.Layout.{size};
+ghost use Rattle.ray_tracing.specs.Records.{bufferAt, blasAt, declaredAt, tlasAt, entryAt, geometryAt, packageAt};
+
+pub struct BufferId(pub u16);
+
+pub struct BlasId(pub u16);
+
+pub struct TlasId(pub u16);
+
+pub struct Buffer {
+    pub size: u64,
+    pub blas_input: bool,
+    pub destroyed: bool,
+}
+
+pub struct Blas {
+    pub kind: u8,
+    pub flags: u8,
+    pub compacted_state: u8,
+    pub destroyed: u8,
+    pub build_scratch_size: u64,
+    pub handle: u64,
+    pub built_index: u64,
+}
+
+// What a Blas declares of one of its geometries, of either kind.
+pub struct BlasGeometrySizeDescriptor {
+    pub blas: BlasId,
+    pub flags: u8,
+    pub count: u32,
+    pub vertex_format: u8,
+    pub min_vertex_stride: u16,
+    pub stride_alignment: u16,
+    pub index_format: u8,
+    pub index_count_present: u8,
+    pub index_count: u32,
+}
+
+pub struct Tlas {
+    pub flags: u8,
+    pub destroyed: u8,
+    pub build_scratch_size: u64,
+    pub max_instance_count: u32,
+    pub built_index: u64,
+}
+
+pub struct BlasBuildEntry {
+    pub blas: BlasId,
+    pub kind: u8,
+    pub geometry_count: u16,
+}
+
+// A geometry of either kind: `first` is the first vertex or the primitive offset, `buffer` the vertex or the AABB buffer.
+pub struct BlasGeometry {
+    pub flags: u8,
+    pub count: u32,
+    pub first: u32,
+    pub stride: u64,
+    pub buffer: BufferId,
+    pub vertex_format: u8,
+    pub index_format: u8,
+    pub index_buffer: BufferId,
+    pub index_count_present: u8,
+    pub index_count: u32,
+    pub first_index_present: u8,
+    pub first_index: u32,
+    pub transform_buffer: BufferId,
+    pub transform_buffer_offset_present: u8,
+    pub transform_buffer_offset: u64,
+}
+
+pub struct TlasPackage {
+    pub tlas: TlasId,
+    pub slot_count: u16,
+}
+
+// The transform's numbers; beside each that is a NaN the pattern it was read from, 0 beside the others: an f32 keeps no NaN's payload.
+pub struct TlasInstance {
+    pub transform: [f32; 12],
+    pub nan_bits: [u32; 12],
+    pub custom_data: u32,
+    pub mask: u8,
+    pub blas: BlasId,
+}
+
+// Why a sheet is refused.
+pub enum SheetError {
+    UnknownVersion,
+    Truncated,
+    TrailingBytes,
+    TooMany,
+    InvalidValue,
+}
+
+// What judging finds: nothing to refuse, or the first refusal and its place, a byte of the sheet or a record of a lent table.
+pub enum Judged {
+    Fine,
+    Refused(SheetError, usize),
+}
+
+// Where a section's records begin, and how many there are.
+pub struct Section {
+    pub start: usize,
+    pub count: usize,
+}
+
+pub struct Sheet {
+    pub version: u8,
+    pub alignment: u32,
+    pub counter: u64,
+    pub buffers: Section,
+    pub blases: Section,
+    pub declared: Section,
+    pub tlases: Section,
+    pub entries: Section,
+    pub geometries: Section,
+    pub packages: Section,
+    pub slots: Section,
+    pub actions: Section,
+}
+
+pub enum SheetRead {
+    Accepted(Sheet),
+    Refused(SheetError, usize),
+}
+
+// What a refusal speaks of.
+pub enum Resource {
+    Buffer(BufferId),
+    Blas(BlasId),
+    Tlas(TlasId),
+}
+
+// Why a build is refused. The Rust's names, and those that the paper adds: where the Rust panics, ids and values of lent tables, room.
+pub enum BuildAccelerationStructureError {
+    TooMany,
+    InvalidValue,
+    InvalidResource,
+    BlasGeometryKindMismatch,
+    IncompatibleBlasBuildSizes,
+    IncompatibleBlasFlags(u8, u8),
+    IncompatibleBlasVertexCount(u32, u32),
+    DifferentBlasVertexFormats(u8, u8),
+    VertexStrideTooSmall(u64, u64),
+    VertexStrideUnaligned(u64, u64),
+    BlasIndexCountProvidedMismatch,
+    IncompatibleBlasIndexCount(u32, u32),
+    DifferentBlasIndexFormats(u8, u8),
+    MissingIndexBuffer,
+    DestroyedResource(Resource),
+    MissingBufferUsage(BufferId),
+    InsufficientBufferSize {
+        offset: u64,
+        region_size: u64,
+        buffer_size: u64,
+    },
+    MissingAssociatedData,
+    MissingIndexFormat,
+    OffsetLimitedTo4GB {
+        offset: u64,
+        count: u64,
+        stride: u64,
+    },
+    InvalidIndexCount(u32),
+    UseTransformMissing,
+    UnalignedTransformBufferOffset,
+    TransformMissing,
+    IncompatibleBlasAabbPrimitiveCount(u32, u32),
+    UnalignedAabbPrimitiveOffset,
+    InvalidAabbStride(u64),
+    TlasInvalidCustomIndex,
+    TlasDependentMissingVertexReturn,
+    TlasInstanceCountExceeded(u32, u32),
+    OutOfMemory,
+    CompactedBlas,
+    OutputTooShort,
+}
+
+pub fn both(a: bool, b: bool) -> bool
+    ensures { λ r. ⌜ r ≡ (a && b) ⌝ }
+{
+    if a { b } else { false }
+}
+
+pub fn either(a: bool, b: bool) -> bool
+    ensures { λ r. ⌜ r ≡ (a || b) ⌝ }
+{
+    if a { true } else { b }
+}
+
+pub fn pick(b: bool, x: usize, y: usize) -> usize
+    ensures { λ r. ⌜ r ≡ cond b x y ⌝ }
+{
+    if b { x } else { y }
+}
+
+// The record at a byte place of a table: its size is the caller's, its fields' offsets the layout's.
+pub fn buffer_at(table: &[u8], at: usize) -> Buffer
+    requires { ⌜ at + size 1 ≤ length (now table) ⌝ }
+    ensures { λ r. ⌜ r ≡ bufferAt (now (table .entry)) at ⌝ }
+{
+    let size = u64_at(table, at);
+    let marks = u8_at(table, at + 8);
+    Buffer {
+        size,
+        blas_input: marks % 2 == 1,
+        destroyed: marks / 2 % 2 == 1,
+    }
+}
+
+pub fn blas_at(table: &[u8], at: usize) -> Blas
+    requires { ⌜ at + size 2 ≤ length (now table) ⌝ }
+    ensures { λ r. ⌜ r ≡ blasAt (now (table .entry)) at ⌝ }
+{
+    Blas {
+        kind: u8_at(table, at),
+        flags: u8_at(table, at + 1),
+        compacted_state: u8_at(table, at + 2),
+        destroyed: u8_at(table, at + 3),
+        build_scratch_size: u64_at(table, at + 4),
+        handle: u64_at(table, at + 12),
+        built_index: u64_at(table, at + 20),
+    }
+}
+
+pub fn declared_at(table: &[u8], at: usize) -> BlasGeometrySizeDescriptor
+    requires { ⌜ at + size 3 ≤ length (now table) ⌝ }
+    ensures { λ r. ⌜ r ≡ declaredAt (now (table .entry)) at ⌝ }
+{
+    BlasGeometrySizeDescriptor {
+        blas: BlasId(u16_at(table, at)),
+        flags: u8_at(table, at + 2),
+        count: u32_at(table, at + 3),
+        vertex_format: u8_at(table, at + 7),
+        min_vertex_stride: u16_at(table, at + 8),
+        stride_alignment: u16_at(table, at + 10),
+        index_format: u8_at(table, at + 12),
+        index_count_present: u8_at(table, at + 13),
+        index_count: u32_at(table, at + 14),
+    }
+}
+
+pub fn tlas_at(table: &[u8], at: usize) -> Tlas
+    requires { ⌜ at + size 4 ≤ length (now table) ⌝ }
+    ensures { λ r. ⌜ r ≡ tlasAt (now (table .entry)) at ⌝ }
+{
+    Tlas {
+        flags: u8_at(table, at),
+        destroyed: u8_at(table, at + 1),
+        build_scratch_size: u64_at(table, at + 2),
+        max_instance_count: u32_at(table, at + 10),
+        built_index: u64_at(table, at + 14),
+    }
+}
+
+pub fn entry_at(table: &[u8], at: usize) -> BlasBuildEntry
+    requires { ⌜ at + size 5 ≤ length (now table) ⌝ }
+    ensures { λ r. ⌜ r ≡ entryAt (now (table .entry)) at ⌝ }
+{
+    BlasBuildEntry {
+        blas: BlasId(u16_at(table, at)),
+        kind: u8_at(table, at + 2),
+        geometry_count: u16_at(table, at + 3),
+    }
+}
+
+pub fn geometry_at(table: &[u8], at: usize) -> BlasGeometry
+    requires { ⌜ at + size 6 ≤ length (now table) ⌝ }
+    ensures { λ r. ⌜ r ≡ geometryAt (now (table .entry)) at ⌝ }
+{
+    BlasGeometry {
+        flags: u8_at(table, at),
+        count: u32_at(table, at + 1),
+        first: u32_at(table, at + 5),
+        stride: u64_at(table, at + 9),
+        buffer: BufferId(u16_at(table, at + 17)),
+        vertex_format: u8_at(table, at + 19),
+        index_format: u8_at(table, at + 20),
+        index_buffer: BufferId(u16_at(table, at + 21)),
+        index_count_present: u8_at(table, at + 23),
+        index_count: u32_at(table, at + 24),
+        first_index_present: u8_at(table, at + 28),
+        first_index: u32_at(table, at + 29),
+        transform_buffer: BufferId(u16_at(table, at + 33)),
+        transform_buffer_offset_present: u8_at(table, at + 35),
+        transform_buffer_offset: u64_at(table, at + 36),
+    }
+}
+
+pub fn package_at(table: &[u8], at: usize) -> TlasPackage
+    requires { ⌜ at + size 7 ≤ length (now table) ⌝ }
+    ensures { λ r. ⌜ r ≡ packageAt (now (table .entry)) at ⌝ }
+{
+    TlasPackage {
+        tlas: TlasId(u16_at(table, at)),
+        slot_count: u16_at(table, at + 2),
+    }
+}
