@@ -59,7 +59,7 @@ indicesRule g width b =
     (refuse
     (ltb (b .size) (g .«first_index» * width + g .«index_count» * width))
     (refused (cause 23 (g .«first_index» * width) (g .«index_count» * width) (b .size)))
-    (asks (range (g .«index_buffer» .0) (g .«first_index» * width) (g .«index_count» * width)))))))))
+    (asks (range (g .«index_buffer» .0) (g .«first_index» * width) (g .«index_count» * width))))))))))
 
 -- "28, 24, 21, 22, 26, 29, 23 (48 bytes)"; 26 gives "transform: offset, offset, 1"
 abbrev pub transformRule : ℕ → BlasGeometry → Buffer → Checked
