@@ -6,3 +6,5 @@ pub mod Causes
 pub mod Checks
 pub mod Triangles
 pub mod Boxes
+pub mod Mentions
+pub mod Instances

@@ -9,6 +9,7 @@ ghost use Prim.Native.Nat.{_+_, _≤_};
 ghost use lib.ListN.{length};
 ghost use Rattle.ray_tracing.specs.Layout.{size};
 ghost use Rattle.ray_tracing.specs.Records.{bufferAt, blasAt, declaredAt, tlasAt, entryAt, geometryAt, packageAt};
+ghost use Rattle.ray_tracing.specs.Mentions.{mentionOf, bufferMention, blasMention, tlasMention};
 
 pub struct BufferId(pub u16);
 
@@ -185,6 +186,24 @@ pub enum BuildAccelerationStructureError {
     OutputTooShort,
 }
 
+// What a mention of an id finds in its table.
+pub enum Mentioned {
+    Inside,
+    InvalidResource,
+}
+
+// What judging an instance finds.
+pub enum CheckedInstance {
+    Fine,
+    Refused(BuildAccelerationStructureError),
+}
+
+// What appending instances gives: the bytes in use now, or the refusal.
+pub enum Appended {
+    InUse(usize),
+    Refused(BuildAccelerationStructureError),
+}
+
 pub fn both(a: bool, b: bool) -> bool
     ensures { λ r. ⌜ r ≡ (a && b) ⌝ }
 {
@@ -201,6 +220,34 @@ pub fn pick(b: bool, x: usize, y: usize) -> usize
     ensures { λ r. ⌜ r ≡ cond b x y ⌝ }
 {
     if b { x } else { y }
+}
+
+// A mention of an id, which is a number until it is judged here: one function for each sort.
+pub fn buffer_mention(table: &[u8], id: usize) -> Mentioned
+    ensures { λ r. ⌜ mentionOf r ≡ bufferMention (now (table .entry)) id ⌝ }
+{
+    if table.len() / 9 <= id {
+        return Mentioned::InvalidResource;
+    }
+    Mentioned::Inside
+}
+
+pub fn blas_mention(table: &[u8], id: usize) -> Mentioned
+    ensures { λ r. ⌜ mentionOf r ≡ blasMention (now (table .entry)) id ⌝ }
+{
+    if table.len() / 28 <= id {
+        return Mentioned::InvalidResource;
+    }
+    Mentioned::Inside
+}
+
+pub fn tlas_mention(table: &[u8], id: usize) -> Mentioned
+    ensures { λ r. ⌜ mentionOf r ≡ tlasMention (now (table .entry)) id ⌝ }
+{
+    if table.len() / 22 <= id {
+        return Mentioned::InvalidResource;
+    }
+    Mentioned::Inside
 }
 
 // The record at a byte place of a table: its size is the caller's, its fields' offsets the layout's.
