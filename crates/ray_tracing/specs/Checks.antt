@@ -2,9 +2,20 @@
 use Prim.Native.Nat.{ℕ, _+_}
 use mathlib.Core.Bool.{Bool, true, false, not}
 use mathlib.Core.List.{List, [], _∷_, _++_}
+use mathlib.Core.Option.{Option, none, some}
 use lib.Dec.{ltb}
 use Rattle.ray_tracing.specs.declared.Buffer.{Buffer}
-use Rattle.ray_tracing.specs.Causes.{Cause, cause}
+use Rattle.ray_tracing.specs.declared.BlasGeometrySizeDescriptor.{BlasGeometrySizeDescriptor}
+use Rattle.ray_tracing.specs.declared.Declared.{Declared}
+use Rattle.ray_tracing.specs.declared.Declared.the-variants as declared
+use Rattle.ray_tracing.specs.declared.GivenBuffer.{GivenBuffer}
+use Rattle.ray_tracing.specs.declared.GivenBuffer.the-variants as given-buffer
+use Rattle.ray_tracing.specs.declared.Range.{Range}
+use Rattle.ray_tracing.specs.declared.Asked.{Asked}
+use Rattle.ray_tracing.specs.declared.Asked.the-variants as asked
+use Rattle.ray_tracing.specs.declared.CheckedGeometry.{CheckedGeometry}
+use Rattle.ray_tracing.specs.declared.CheckedGeometry.the-variants as checked
+use Rattle.ray_tracing.specs.Causes.{Cause, cause, buildCause}
 use Rattle.ray_tracing.specs.Guard.{refuse}
 
 infixr 20 _then_
@@ -34,3 +45,24 @@ limit32 = 4294967295
 abbrev pub usable : ℕ → Buffer → Checked → Checked
 usable id b rest =
     refuse (b .destroyed) (refused (cause 21 1 id 0)) (refuse (not (b .«blas_input»)) (refused (cause 22 1 id 0)) rest)
+
+-- What the code's values mean
+
+abbrev pub declaredOf : Declared → Option BlasGeometrySizeDescriptor
+declaredOf declared.Missing = none
+declaredOf (declared.Given d) = some d
+
+abbrev pub lentOf : GivenBuffer → Option Buffer
+lentOf given-buffer.Absent = none
+lentOf (given-buffer.Given b) = some b
+
+abbrev pub rangeOf : Range → List ℕ
+rangeOf r = r .buffer .0 ∷ r .start ∷ r .end ∷ []
+
+abbrev pub askedOf : Asked → List ℕ
+askedOf asked.Nothing = []
+askedOf (asked.Of r) = rangeOf r
+
+abbrev pub checkedOf : CheckedGeometry → Checked
+checkedOf (checked.Fine data-range index transform) = asks (rangeOf data-range ++ (askedOf index ++ askedOf transform))
+checkedOf (checked.Refused e) = refused (buildCause e)

@@ -204,6 +204,40 @@ pub enum Appended {
     Refused(BuildAccelerationStructureError),
 }
 
+// What a Blas declares for a geometry, if it does.
+pub enum Declared {
+    Missing,
+    Given(BlasGeometrySizeDescriptor),
+}
+
+// The buffer of an id that may be none.
+pub enum GivenBuffer {
+    Absent,
+    Given(Buffer),
+}
+
+// Bytes of a buffer that are to be initialised.
+pub struct Range {
+    pub buffer: BufferId,
+    pub start: u64,
+    pub end: u64,
+}
+
+pub enum Asked {
+    Nothing,
+    Of(Range),
+}
+
+// What the checks of a geometry find: the ranges asked for, or the first refusal.
+pub enum CheckedGeometry {
+    Fine {
+        data: Range,
+        index: Asked,
+        transform: Asked,
+    },
+    Refused(BuildAccelerationStructureError),
+}
+
 pub fn both(a: bool, b: bool) -> bool
     ensures { λ r. ⌜ r ≡ (a && b) ⌝ }
 {
