@@ -8,3 +8,4 @@ pub mod Triangles
 pub mod Boxes
 pub mod Mentions
 pub mod Instances
+pub mod Plan

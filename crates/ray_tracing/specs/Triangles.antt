@@ -104,8 +104,8 @@ trianglesRule blas declared g vertices index transform =
     refuse (neb (blas .kind) 0) (refused (bare 10))
     (declaredRule declared
     (λ d.
-        descriptorRule d g
-        then indexSizesRule d g (isLent index)
-        then verticesRule g vertices
-        then indexPart g index
-        then transformPart (blas .flags) g transform))
+    descriptorRule d g
+    then indexSizesRule d g (isLent index)
+    then verticesRule g vertices
+    then indexPart g index
+    then transformPart (blas .flags) g transform))
