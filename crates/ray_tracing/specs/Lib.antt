@@ -9,3 +9,4 @@ pub mod Boxes
 pub mod Mentions
 pub mod Instances
 pub mod Plan
+pub mod Submission
