@@ -14,10 +14,15 @@ use Rattle.ray_tracing.specs.declared.Tlas.{Tlas}
 use Rattle.ray_tracing.specs.declared.BlasBuildEntry.{BlasBuildEntry}
 use Rattle.ray_tracing.specs.declared.BlasGeometry.{BlasGeometry}
 use Rattle.ray_tracing.specs.declared.TlasPackage.{TlasPackage}
+use Rattle.ray_tracing.specs.declared.Written.{Written}
+use Rattle.ray_tracing.specs.declared.Verdict as code-verdict
+use Rattle.ray_tracing.specs.declared.Verdict.the-variants as verdict
+use Rattle.ray_tracing.specs.declared.Built.{Built}
+use Rattle.ray_tracing.specs.declared.Built.the-variants as built
 use Rattle.ray_tracing.specs.Layout.{layout, size}
 use Rattle.ray_tracing.specs.Reading as reading
 use Rattle.ray_tracing.specs.Records.{fieldAt, bufferAt, blasAt, declaredAt, tlasAt, entryAt, geometryAt, packageAt}
-use Rattle.ray_tracing.specs.Causes.{Cause, cause, bare}
+use Rattle.ray_tracing.specs.Causes.{Cause, cause, bare, buildCause}
 use Rattle.ray_tracing.specs.Checks as checks
 use Rattle.ray_tracing.specs.Triangles.{lent, trianglesRule}
 use Rattle.ray_tracing.specs.Boxes.{boxesRule}
@@ -50,6 +55,11 @@ on false v = passed
 abbrev pub _or_ : Verdict → Verdict → Verdict
 _or_ passed v = v
 _or_ (refused e f c) v = refused e f c
+
+-- what the code's verdict says
+abbrev pub verdictOf : code-verdict.Verdict → Verdict
+verdictOf verdict.Passed = passed
+verdictOf (verdict.Refused c e f) = refused e f (buildCause c)
 
 -- a cause with no figures, by its number, at E; 0 is none
 abbrev pub atE : ℕ → ℕ → ℕ → Verdict
@@ -359,11 +369,30 @@ tooShort p o =
 
 -- The answer
 
--- recorded, with the scratch size; nothing recorded; or refused
+-- how many elements of each output are written
+abbrev pub countsOf : Outputs → Written
+countsOf p =
+    record {
+      «blas_offsets» = length (p .«blas_offsets»);
+      «tlas_offsets» = length (p .«tlas_offsets»);
+      «staging_ranges» = length (p .«staging_ranges»);
+      instances = length (p .instances);
+      «init_ranges» = length (p .«init_ranges»);
+      compactable = length (p .compactable);
+      lists = length (p .lists);
+    }
+
+-- recorded, with the scratch size and the counts; nothing recorded, with the count of the initialisation ranges' cells; or refused
 pub data Answer : Type 0 where
-  recorded : ℕ → Answer
-  nothing-recorded : Answer
+  recorded : ℕ → Written → Answer
+  nothing-recorded : ℕ → Answer
   not-built : ℕ → ℕ → Cause → Answer
+
+-- what the code's answer says
+abbrev pub answerOf : Built → Answer
+answerOf (built.Recorded size w) = recorded size w
+answerOf (built.NothingRecorded n) = nothing-recorded n
+answerOf (built.Refused c e f) = not-built e f (buildCause c)
 
 abbrev pub unless : Verdict → Answer → Answer
 unless passed a = a
@@ -374,8 +403,8 @@ unfoldable pub build : Tables → Outputs → Answer
 build x o =
     unless (judgeTables x or judgeIds x or judgeEntries x or judgePackages x)
     (cond (eqb (scratchSize x) 0)
-    (unless (on (short (planOf x .«init_ranges») (o .«init_ranges»)) (refused 0 0 (bare 39))) nothing-recorded)
-    (unless (judgeFinal x or on (tooShort (planOf x) o) (refused 0 0 (bare 39))) (recorded (scratchSize x))))
+    (unless (on (short (planOf x .«init_ranges») (o .«init_ranges»)) (refused 0 0 (bare 39))) (nothing-recorded (length (planOf x .«init_ranges»))))
+    (unless (judgeFinal x or on (tooShort (planOf x) o) (refused 0 0 (bare 39))) (recorded (scratchSize x) (countsOf (planOf x)))))
 
 -- "Lent output past what is written keeps its bytes"; a refusal leaves all as it was
 abbrev pub written : Outputs → Outputs → Outputs
@@ -403,6 +432,6 @@ onlyRanges p o =
     }
 
 abbrev pub leaves : Answer → Outputs → Outputs → Outputs
-leaves (recorded n) p o = written p o
-leaves nothing-recorded p o = onlyRanges p o
+leaves (recorded n w) p o = written p o
+leaves (nothing-recorded n) p o = onlyRanges p o
 leaves (not-built e f c) p o = o

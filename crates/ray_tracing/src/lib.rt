@@ -186,6 +186,30 @@ pub enum BuildAccelerationStructureError {
     OutputTooShort,
 }
 
+// What judging a build finds: nothing to refuse, or the first refusal and E, its entry and geometry or its package and slot.
+pub enum Verdict {
+    Passed,
+    Refused(BuildAccelerationStructureError, usize, usize),
+}
+
+// How many elements of each lent output a recorded build writes.
+pub struct Written {
+    pub blas_offsets: usize,
+    pub tlas_offsets: usize,
+    pub staging_ranges: usize,
+    pub instances: usize,
+    pub init_ranges: usize,
+    pub compactable: usize,
+    pub lists: usize,
+}
+
+// Recorded, with the scratch size; nothing to record, only the initialisation ranges written; or refused, with E.
+pub enum Built {
+    Recorded(u64, Written),
+    NothingRecorded(usize),
+    Refused(BuildAccelerationStructureError, usize, usize),
+}
+
 // What a mention of an id finds in its table.
 pub enum Mentioned {
     Inside,
