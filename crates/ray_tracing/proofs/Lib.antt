@@ -1,3 +1,5 @@
 pub mod Guard
 pub mod Reading
 pub mod Windows
+pub mod Numbers
+pub mod Instances
