@@ -1,0 +1,110 @@
+-- What the reader knows after k sections, carried over one section more, and what it answers by it.
+use Prim.Native.Nat.{ℕ, zero, suc, _+_, _-_, _*_, _≤_, _<_}
+use native.Mathlib.Omega.{arith}
+use mathlib.Core.Bool.{Bool, true, false}
+use mathlib.Core.Path.{_≡_, refl, sym, _∙_}
+use mathlib.Core.List.{List}
+use lib.Dec.{eqb, ltb}
+use lib.ListN.{length, getD, set, length-set}
+use lib.Seq.{getD-set-same, getD-set-other}
+use borrow.Author.Tests.{lt-ltb, le-ltb, eqb-true, eqb-false}
+use Rattle.wire.specs.Wire.{leAt}
+use Rattle.ray_tracing.specs.declared.Section.{Section}
+use Rattle.ray_tracing.specs.Layout.{size}
+use Rattle.ray_tracing.specs.Reading.{
+  fine,
+  refused,
+  on,
+  _or_,
+  past,
+  from,
+  judgeSection,
+  judgeSections,
+  judgeSheet,
+  sectionOf,
+  sheetOf,
+  accepted,
+  rejected,
+  readSheet,
+}
+use Rattle.ray_tracing.proofs.Reading.{section-whole, past-more, from-more, section-fine, section-refused}
+
+-- a list that holds f below k, with f k stored at k
+stored :
+    (f : ℕ → ℕ) (xs : List ℕ) (k v : ℕ)
+    → k < length xs
+    → v ≡ f k
+    → ((j : ℕ) → j < k → getD xs j 0 ≡ f j)
+    → (j : ℕ)
+    → j < k + 1
+    → getD (set xs k v) j 0 ≡ f j
+stored f xs k v h e g j l = go (eqb j k) refl
+  where
+    go : (b : Bool) → eqb j k ≡ b → getD (set xs k v) j 0 ≡ f j
+    go true b = rw (eqb-true j k b) (getD-set-same xs k v 0 h ∙ e)
+    go false b = getD-set-other xs k j v 0 (eqb-false j k b) ∙ g j (omega (arith, eqb-false j k b))
+
+-- what is known after k sections
+pub record Known (s start count : List ℕ) (a p k : ℕ) : Type 0 where
+  pub within : k ≤ 9
+  pub order : a ≤ p
+  pub header : 1 + size 0 ≤ p
+  pub whole : p ≤ length s
+  pub starts : length start ≡ 9
+  pub counts : length count ≡ 9
+  pub begins : a ≡ from s k
+  pub ends : p ≡ past s k
+  pub start-is : (j : ℕ) → j < k → getD start j 0 ≡ past s j + 2
+  pub count-is : (j : ℕ) → j < k → getD count j 0 ≡ leAt 2 s (past s j)
+  pub judged : judgeSheet s ≡ (judgeSections s k (9 - k) or on (ltb (past s 9) (length s)) (refused 3 (past s 9)))
+
+module _ (s start count : List ℕ) (a p k : ℕ) (g : Known s start count a p k) where
+  section-is : judgeSection s k a p ≡ judgeSection s k (from s k) (past s k)
+  section-is = λ i. judgeSection s k (g .begins i) (g .ends i)
+
+  pub refused-at : (n q : ℕ) → k < 9 → judgeSection s k a p ≡ refused n q → readSheet s ≡ rejected n q
+  unfolding readSheet
+  refused-at n q h f = rw (g .judged, section-refused s k h n q (sym section-is ∙ f))
+
+  pub known-next :
+      k < 9
+      → judgeSection s k a p ≡ fine
+      → Known s (set start k (p + 2)) (set count k (leAt 2 s p)) (p + 2) (p + 2 + leAt 2 s p * size (k + 1)) (k + 1)
+  known-next h f =
+      let w = section-whole s k a p f in
+      record {
+        within = omega arith;
+        order = omega arith;
+        header = omega (arith, g .header);
+        whole = w;
+        starts = length-set start k (p + 2) ∙ g .starts;
+        counts = length-set count k (leAt 2 s p) ∙ g .counts;
+        begins = rw (g .ends) (sym (from-more s k));
+        ends = rw (g .ends) (sym (past-more s k));
+        start-is = stored (λ (j : ℕ). past s j + 2) start k (p + 2) (omega (arith, g .starts)) (rw (g .ends)) (g .start-is);
+        count-is = stored (λ (j : ℕ). leAt 2 s (past s j)) count k (leAt 2 s p) (omega (arith, g .counts)) (rw (g .ends)) (g .count-is);
+        judged = rw (g .judged, section-fine s k h (sym section-is ∙ f));
+      }
+
+  module _ (h : 9 ≤ k) where
+    last : k ≡ 9
+    last = omega (arith, g .within)
+
+    pub left-over : p < length s → readSheet s ≡ rejected 3 p
+    unfolding readSheet judgeSections
+    left-over l =
+        let e : p ≡ past s 9 = rw last at (g .ends) in
+        let f = rw last at (g .judged) in
+        rw (f, ← e, lt-ltb p (length s) l)
+
+    pub read : length s ≤ p → readSheet s ≡ accepted (sheetOf s)
+    unfolding readSheet judgeSections
+    read l =
+        let e : p ≡ past s 9 = rw last at (g .ends) in
+        let f = rw last at (g .judged) in
+        rw (f, ← e, le-ltb p (length s) l)
+
+    pub section-found :
+        (j : ℕ) (r : Section) → j < 9 → (r .start ≡ getD start j 0) × (r .count ≡ getD count j 0) → r ≡ sectionOf s j
+    section-found j r l e =
+        λ i. record { start = (e .0 ∙ g .start-is j (omega arith)) i; count = (e .1 ∙ g .count-is j (omega arith)) i }
