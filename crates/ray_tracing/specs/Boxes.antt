@@ -13,6 +13,18 @@ use Rattle.ray_tracing.specs.Guard.{refuse, neb}
 use Rattle.ray_tracing.specs.Checks.{Checked, asks, refused, range, limit32, usable}
 use Rattle.ray_tracing.specs.Triangles.{declaredRule}
 
+-- "21, 22, 26 (stride or count times stride above 2^32 - 1), 23"
+abbrev pub regionRule : BlasGeometry → Buffer → Checked
+regionRule g b =
+    usable (g .buffer .0) b
+    (refuse
+    (ltb limit32 (g .stride) || ltb limit32 (g .count * g .stride))
+    (refused (cause 26 (stopped (g .count * g .stride)) (g .count) (g .stride)))
+    (refuse
+    (ltb (b .size) (g .first + g .count * g .stride))
+    (refused (cause 23 (g .first) (g .count * g .stride) (b .size)))
+    (asks (range (g .buffer .0) (g .first) (g .count * g .stride)))))
+
 -- 12 flags differ, 31 box count above declared, 32 box offset not in eights, 33 box stride below 24 or not in eights, then the buffer
 abbrev pub givenRule : BlasGeometrySizeDescriptor → BlasGeometry → Buffer → Checked
 givenRule d g b =
@@ -20,14 +32,7 @@ givenRule d g b =
     (refuse (ltb (d .count) (g .count)) (refused (cause 31 (d .count) (g .count) 0))
     (refuse (neb (g .first % 8) 0) (refused (bare 32))
     (refuse (ltb (g .stride) 24 || neb (g .stride % 8) 0) (refused (cause 33 (g .stride) 0 0))
-    (usable (g .buffer .0) b
-    (refuse
-    (ltb limit32 (g .stride) || ltb limit32 (g .count * g .stride))
-    (refused (cause 26 (stopped (g .count * g .stride)) (g .count) (g .stride)))
-    (refuse
-    (ltb (b .size) (g .first + g .count * g .stride))
-    (refused (cause 23 (g .first) (g .count * g .stride) (b .size)))
-    (asks (range (g .buffer .0) (g .first) (g .count * g .stride)))))))))
+    (regionRule g b))))
 
 -- 10 kind mismatch, 11 more geometries than declared
 abbrev pub boxesRule : Blas → Option BlasGeometrySizeDescriptor → BlasGeometry → Buffer → Checked

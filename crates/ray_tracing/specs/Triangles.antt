@@ -46,20 +46,24 @@ verticesRule g b =
 abbrev pub indexWidth : ℕ → ℕ
 indexWidth format = cond (eqb format 1) 2 4
 
--- "24, 21, 22, 25, 26 (first index times width), 26 (count times width), 27, 23"
-abbrev pub indicesRule : BlasGeometry → ℕ → Buffer → Checked
-indicesRule g width b =
-    refuse (eqb (g .«first_index_present») 0) (refused (bare 24))
-    (refuse (eqb (g .«index_count_present») 0) (refused (bare 24))
-    (usable (g .«index_buffer» .0) b
-    (refuse (eqb (g .«index_format») 0) (refused (bare 25))
-    (refuse (ltb limit32 (g .«first_index» * width)) (refused (cause 26 (g .«first_index» * width) (g .«first_index») width))
+-- "26 (first index times width), 26 (count times width), 27, 23"
+abbrev pub indexRegionRule : BlasGeometry → ℕ → Buffer → Checked
+indexRegionRule g width b =
+    refuse (ltb limit32 (g .«first_index» * width)) (refused (cause 26 (g .«first_index» * width) (g .«first_index») width))
     (refuse (ltb limit32 (g .«index_count» * width)) (refused (cause 26 (g .«index_count» * width) (g .«index_count») width))
     (refuse (neb (g .«index_count» % 3) 0) (refused (cause 27 (g .«index_count») 0 0))
     (refuse
     (ltb (b .size) (g .«first_index» * width + g .«index_count» * width))
     (refused (cause 23 (g .«first_index» * width) (g .«index_count» * width) (b .size)))
-    (asks (range (g .«index_buffer» .0) (g .«first_index» * width) (g .«index_count» * width))))))))))
+    (asks (range (g .«index_buffer» .0) (g .«first_index» * width) (g .«index_count» * width))))))
+
+-- "24, 21, 22, 25", then the region
+abbrev pub indicesRule : BlasGeometry → ℕ → Buffer → Checked
+indicesRule g width b =
+    refuse (eqb (g .«first_index_present») 0) (refused (bare 24))
+    (refuse (eqb (g .«index_count_present») 0) (refused (bare 24))
+    (usable (g .«index_buffer» .0) b
+    (refuse (eqb (g .«index_format») 0) (refused (bare 25)) (indexRegionRule g width b))))
 
 -- "28, 24, 21, 22, 26, 29, 23 (48 bytes)"; 26 gives "transform: offset, offset, 1"
 abbrev pub transformRule : ℕ → BlasGeometry → Buffer → Checked
