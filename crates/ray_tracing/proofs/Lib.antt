@@ -3,3 +3,5 @@ pub mod Reading
 pub mod Windows
 pub mod Numbers
 pub mod Instances
+pub mod Mentions
+pub mod Causes

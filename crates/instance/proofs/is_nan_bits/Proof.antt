@@ -1,0 +1,15 @@
+-- `instance::is_nan_bits` meets its contract: `nanBits` is one comparison.
+use mathlib.Core.Path.{sym}
+use lib.Ieee.{binary32}
+use lib.Ieee.Bits.{nanBits-above}
+use Rattle.instance.proofs.is_nan_bits.Statement.{statement}
+use Rattle.instance.proofs.is_nan_bits.Tie as tie
+use Rattle.instance.proofs.is_nan_bits.Reads as reads
+use Rattle.instance.proofs.is_nan_bits.Lts as lts
+
+-- src/lib.rt:16:1
+returns : tie.Need-returns
+returns c = sym (nanBits-above binary32 (c .args .bits))
+
+pub is-nan-bits-spec : {M : Type 1} → statement M
+is-nan-bits-spec = tie.close (tie.spec returns)

@@ -1,0 +1,124 @@
+-- `instance::put_transform` meets its contract. The invariant: the first k patterns are written.
+use borrow.Author.Needs.{needs}
+use native.Mathlib.Omega.{arith}
+use mathlib.Core.Path.{_≡_, refl, sym, ap, _∙_}
+use mathlib.Core.List.{List}
+use Prim.Native.Nat.{ℕ, _+_, _*_, _-_, _≤_, _<_}
+use lib.ListN.{length, take}
+use lib.Seq.{sets, take-all}
+use Rattle.ray_tracing.specs.Instances.{words, patterns}
+use Rattle.ray_tracing.proofs.Instances.{length-patterns, getD-patterns}
+use Rattle.instance.proofs.Laws.{put-more}
+use Rattle.instance.proofs.put_transform.Statement.{statement}
+use Rattle.instance.proofs.put_transform.Tie as tie
+use Rattle.instance.proofs.put_transform.Reads as reads
+use Rattle.instance.proofs.put_transform.Lts as lts
+use Rattle.instance.proofs.bits_of_number.Reads as bits-of-number-reads
+use Rattle.wire.proofs.put_u32.Reads as put-u32-reads
+
+abbrev Inv-loop : tie.InvT-loop
+Inv-loop out₀ at transform nan-bits k₀ out k =
+    (k ≤ 12) × (length out ≡ length out₀) × (out ≡ sets out₀ at (words (take k (patterns transform nan-bits))))
+
+abbrev μ-loop : tie.MeasureT-loop
+μ-loop out₀ at transform nan-bits k₀ out k = 12 - k
+
+-- src/lib.rt:104:5
+loop-holds : tie.Need-loop-holds Inv-loop μ-loop
+unfolding words
+loop-holds c = (omega arith, refl, refl)
+
+-- src/lib.rt:105:27
+mul-put-u32 : tie.Need-mul-put-u32 Inv-loop μ-loop
+mul-put-u32 c = search needs
+
+-- src/lib.rt:105:22
+add-put-u32 : tie.Need-add-put-u32 Inv-loop μ-loop
+add-put-u32 c = search needs
+
+-- src/lib.rt:105:49
+mul-bits-of-number : tie.Need-mul-bits-of-number Inv-loop μ-loop
+mul-bits-of-number c = search needs
+
+-- src/lib.rt:105:49
+array-read-bits-of-number : tie.Need-array-read-bits-of-number Inv-loop μ-loop
+array-read-bits-of-number c = search needs
+
+-- src/lib.rt:105:63
+mul-bits-of-number-2 : tie.Need-mul-bits-of-number-2 Inv-loop μ-loop
+mul-bits-of-number-2 c = search needs
+
+-- src/lib.rt:105:63
+array-read-bits-of-number-2 : tie.Need-array-read-bits-of-number-2 Inv-loop μ-loop
+array-read-bits-of-number-2 c = search needs
+
+-- src/lib.rt:105:34
+bits-of-number-requires : tie.Need-bits-of-number-requires Inv-loop μ-loop
+bits-of-number-requires c κs = search needs
+
+-- src/lib.rt:105:9
+put-u32-requires : tie.Need-put-u32-requires Inv-loop μ-loop
+put-u32-requires c κs = search needs
+
+-- src/lib.rt:106:9
+add-k : tie.Need-add-k Inv-loop μ-loop
+add-k c = search needs
+
+-- src/lib.rt:104:5
+loop-less : tie.Need-loop-less Inv-loop μ-loop
+loop-less c = search needs
+
+-- src/lib.rt:104:5
+loop-again : tie.Need-loop-again Inv-loop μ-loop
+loop-again c =
+    let at-loop = c .before .before .before .before .before .before in
+    let start = at-loop .before .before in
+    let xs = start .args .t3 in
+    let ns = start .args .t4 in
+    let k = at-loop .loop .k in
+    let lx : length xs ≡ 12 = omega arith in
+    let ln : length ns ≡ 12 = search needs in (
+      omega arith,
+      c .before .before .put-u32 .kept .0 ∙ at-loop .loop .inv .1,
+      put-more (start .args .out .now) (start .args .at) k (patterns xs ns) (c .before .before .before .bits-of-number .result)
+          (omega (arith, length-patterns xs ns (omega arith)))
+          (c .before .before .before .bits-of-number .ensures ∙ sym (getD-patterns xs ns k 0 (omega arith) (omega arith)))
+          (at-loop .loop .inv .2)
+          (c .before .before .put-u32 .ensures),
+    )
+
+-- src/lib.rt:99:1
+same-length : tie.Need-same-length Inv-loop μ-loop
+same-length c = search needs
+
+-- src/lib.rt:99:1
+returns : tie.Need-returns Inv-loop μ-loop
+returns c =
+    let at-loop = c .before in
+    let start = at-loop .before .before in
+    let xs = start .args .t3 in
+    let ns = start .args .t4 in
+    at-loop .loop .inv .2
+    ∙ ap (λ (l : List ℕ). sets (start .args .out .now) (start .args .at) (words l))
+    (take-all (at-loop .loop .k) (patterns xs ns) (omega (arith, length-patterns xs ns (omega arith))))
+
+pub put-transform-spec : {M : Type 1} → statement M
+put-transform-spec =
+    tie.close
+    (tie.spec
+    Inv-loop
+    μ-loop
+    loop-holds
+    mul-put-u32
+    add-put-u32
+    mul-bits-of-number
+    array-read-bits-of-number
+    mul-bits-of-number-2
+    array-read-bits-of-number-2
+    bits-of-number-requires
+    put-u32-requires
+    add-k
+    loop-less
+    loop-again
+    same-length
+    returns)

@@ -1,0 +1,189 @@
+// Instances of a Tlas: read from a slot's fields, judged, and written as the 64 bytes of VkAccelerationStructureInstanceKHR.
+use ray_tracing::Appended;
+use ray_tracing::Blas;
+use ray_tracing::BlasId;
+use ray_tracing::BuildAccelerationStructureError;
+use ray_tracing::CheckedInstance;
+use ray_tracing::Mentioned;
+use ray_tracing::Tlas;
+use ray_tracing::TlasId;
+use ray_tracing::TlasInstance;
+use ray_tracing::blas_at;
+use ray_tracing::blas_mention;
+use ray_tracing::tlas_at;
+use ray_tracing::tlas_mention;
+use wire::put_u32;
+use wire::put_u64;
+use wire::u8_at;
+use wire::u16_at;
+use wire::u32_at;
+use wire::u64_at;
+ghost use mathlib.Core.Path.{_≡_};
+ghost use mathlib.Core.Bool.{cond};
+ghost use Prim.Native.Nat.{ℕ, _+_, _*_, _/_, _^_, _≤_, _<_};
+ghost use lib.ListN.{length};
+ghost use lib.Seq.{sets};
+ghost use lib.Ieee.{binary32, ofBits, nanBits};
+ghost use Rattle.ray_tracing.specs.Records.{fieldAt};
+ghost use Rattle.ray_tracing.specs.Causes.{bare};
+ghost use Rattle.ray_tracing.specs.Mentions.{mentionOf, blasOf};
+ghost use Rattle.ray_tracing.specs.Instances.{nanOf, bitsOf, patterns, words, instanceBytes, instanceFrom, instanceAt, presentAt, slotBytes, slotsBytes, presentOf, returnsVertices, instanceRule, namedInstanceRule, namedTlasRule, slotMention, slotRule, instanceCause, appendedOf, appendRule, appendBytes};
+ghost use Rattle.instance.specs.Writable.{Writable};
+
+// A number, and the pattern that it was read from where that is a NaN's, else 0.
+pub struct Number {
+    pub value: f32,
+    pub nan_bits: u32,
+}
+
+// Whether bits is a NaN's pattern: without its sign it is above an infinity's.
+pub fn is_nan_bits(bits: u32) -> bool
+    ensures { λ r. ⌜ r ≡ nanBits binary32 bits ⌝ }
+{
+    0x7f80_0000 < bits % 0x8000_0000
+}
+
+pub fn number_of_bits(bits: u32) -> Number
+    ensures { λ r. ⌜ (r .value ≡ ofBits binary32 bits) × (r .«nan_bits» ≡ nanOf bits) ⌝ }
+{
+    if is_nan_bits(bits) {
+        Number {
+            value: 0.0 / 0.0,
+            nan_bits: bits,
+        }
+    } else {
+        Number {
+            value: f32::from_bits(bits),
+            nan_bits: 0,
+        }
+    }
+}
+
+pub fn bits_of_number(value: f32, nan_bits: u32) -> u32
+    ensures { λ r. ⌜ r ≡ bitsOf value «nan_bits» ⌝ }
+{
+    if value != value {
+        if is_nan_bits(nan_bits) {
+            nan_bits
+        } else {
+            0x7fc0_0000
+        }
+    } else {
+        f32::to_bits(value)
+    }
+}
+
+// The instance whose Blas field is at a place: a slot's fields after its present byte.
+pub fn instance_from(s: &[u8], at: usize) -> TlasInstance
+    requires { ⌜ at + 55 ≤ length (now s) ⌝ }
+    ensures { λ r. ⌜ r ≡ instanceFrom (now (s .entry)) at ⌝ }
+{
+    let mut transform = [0.0f32; 12];
+    let mut nan_bits = [0u32; 12];
+    let mut k = 0;
+    while k < 12 {
+        let n = number_of_bits(u32_at(s, at + 7 + 4 * k));
+        transform[k] = n.value;
+        nan_bits[k] = n.nan_bits;
+        k += 1;
+    }
+    TlasInstance {
+        transform,
+        nan_bits,
+        custom_data: u32_at(s, at + 2),
+        mask: u8_at(s, at + 6),
+        blas: BlasId(u16_at(s, at)),
+    }
+}
+
+pub fn put_transform(out: &mut [u8], at: usize, transform: [f32; 12], nan_bits: [u32; 12])
+    requires { ⌜ at + 48 ≤ length (now out) ⌝ }
+    ensures { λ _. ⌜ now (out .exit) ≡ sets (now (out .entry)) at (words (patterns transform «nan_bits»)) ⌝ }
+{
+    let mut k = 0;
+    while k < 12 {
+        put_u32(out, at + 4 * k, bits_of_number(transform[k], nan_bits[k]));
+        k += 1;
+    }
+}
+
+pub fn put_instance(out: &mut [u8], at: usize, instance: TlasInstance, address: u64)
+    requires { ⌜ (at + 64 ≤ length (now out)) × (instance .«custom_data» < 2 ^ 24) ⌝ }
+    ensures { λ _. ⌜ now (out .exit) ≡ sets (now (out .entry)) at (instanceBytes instance address) ⌝ }
+{
+    let transform = instance.transform;
+    let nan_bits = instance.nan_bits;
+    put_transform(out, at, transform, nan_bits);
+    put_u32(
+        out,
+        at + 48,
+        instance.custom_data + 16777216 * (instance.mask as u32),
+    );
+    put_u32(out, at + 52, 0);
+    put_u64(out, at + 56, address);
+}
+
+fn returns_vertices(flags: u8) -> bool
+    ensures { λ r. ⌜ r ≡ returnsVertices flags ⌝ }
+{
+    flags / 2 % 2 == 1
+}
+
+// The step of builds and appends: 34, 35.
+pub fn check_instance(tlas: Tlas, blas: Blas, custom_data: u32) -> CheckedInstance
+    ensures { λ r. ⌜ instanceCause r ≡ bare (instanceRule tlas blas «custom_data») ⌝ }
+{
+    if 16777216 <= custom_data {
+        return CheckedInstance::Refused(BuildAccelerationStructureError::TlasInvalidCustomIndex);
+    }
+    if returns_vertices(tlas.flags) {
+        if returns_vertices(blas.flags) {
+            return CheckedInstance::Fine;
+        }
+        return CheckedInstance::Refused(
+            BuildAccelerationStructureError::TlasDependentMissingVertexReturn,
+        );
+    }
+    CheckedInstance::Fine
+}
+
+// 6, 34, 35.
+pub fn check_named_instance(tlas: Tlas, blases: &[u8], instance: TlasInstance) -> CheckedInstance
+    ensures { λ r. ⌜ instanceCause r ≡ bare (namedInstanceRule tlas (now (blases .entry)) instance) ⌝ }
+{
+    let blas = instance.blas;
+    let id = blas.0 as usize;
+    let mentioned = blas_mention(blases, id);
+    match mentioned {
+        Mentioned::InvalidResource => {
+            CheckedInstance::Refused(BuildAccelerationStructureError::InvalidResource)
+        }
+        Mentioned::Inside => check_instance(tlas, blas_at(blases, id * 28), instance.custom_data),
+    }
+}
+
+// 6 for the Tlas before those.
+pub fn check_named_tlas(
+    tlases: &[u8],
+    blases: &[u8],
+    tlas: TlasId,
+    instance: TlasInstance,
+) -> CheckedInstance
+    ensures { λ r. ⌜ instanceCause r ≡ bare (namedTlasRule (now (tlases .entry)) (now (blases .entry)) tlas instance) ⌝ }
+{
+    let id = tlas.0 as usize;
+    let mentioned = tlas_mention(tlases, id);
+    match mentioned {
+        Mentioned::InvalidResource => {
+            CheckedInstance::Refused(BuildAccelerationStructureError::InvalidResource)
+        }
+        Mentioned::Inside => check_named_instance(tlas_at(tlases, id * 22), blases, instance),
+    }
+}
+
+pub fn address_of(blases: &[u8], blas: BlasId) -> u64
+    requires { ⌜ blas .0 < length (now blases) / 28 ⌝ }
+    ensures { λ r. ⌜ r ≡ blasOf (now (blases .entry)) (blas .0) .handle ⌝ }
+{
+    u64_at(blases, blas.0 as usize * 28 + 12)
+}
