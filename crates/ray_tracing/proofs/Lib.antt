@@ -5,3 +5,4 @@ pub mod Numbers
 pub mod Instances
 pub mod Mentions
 pub mod Causes
+pub mod Longest

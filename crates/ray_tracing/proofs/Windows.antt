@@ -1,7 +1,7 @@
 -- Judging looks only at the bytes that it judges: in a list, and in any part of it that holds them, it finds the same, at the same place
 -- counted from where the part begins. So a section's records are judged in the sheet as they are in a table of their own.
 use Prim.Native.Nat.{ℕ, zero, suc, _+_, _-_, _*_, _/_, _≤_, _<_}
-use native.Mathlib.Nat.{add-assoc, add-zero, zero-add, suc-mul, zero-mul}
+use native.Mathlib.Nat.{add-assoc, zero-add, suc-mul, mul-le-mul-right}
 use native.Mathlib.Omega.{arith}
 use mathlib.Core.Bool.{Bool, true, false, not, cond}
 use mathlib.Core.Path.{_≡_, refl, sym, ap, _∙_}
@@ -9,10 +9,10 @@ use mathlib.Core.List.{List, [], _∷_}
 use lib.Dec.{eqb, ltb}
 use lib.ListN.{length, getD, take, drop, length-drop}
 use lib.Seq.{length-take-le, getD-take, getD-drop, ext-getD}
-use borrow.Author.Tests.{le-ltb, eqb-true}
+use borrow.Author.Tests.{le-ltb, ltb-false, eqb-true}
 use Rattle.wire.specs.Wire.{leAt}
 use Rattle.wire.proofs.Laws.{le-cong}
-use Rattle.ray_tracing.specs.Layout.{Seen, Field, fits, size, total}
+use Rattle.ray_tracing.specs.Layout.{Seen, Field, fits, layout, size, total}
 use Rattle.ray_tracing.specs.Reading.{
   Judged,
   fine,
@@ -29,6 +29,7 @@ use Rattle.ray_tracing.specs.Reading.{
   judgeTable,
   sumOfCounts,
   addsUp,
+  judgeSection,
 }
 
 -- t is a part of s, from a on
@@ -127,3 +128,40 @@ module _ {a : ℕ} {t s : List ℕ} (w : Window a t s) where
             let d : sumOfCounts b (size 5) 3 (length b / size 5) ≡ n = eqb-true (sumOfCounts b (size 5) 3 (length b / size 5)) n e in
             drawn-window b (length b / size 5) 0 p (rw d (omega arith))
         go false e = records-window (begin w b false) n p h
+
+  -- the section after section k, where the window holds the most records that it may have
+  pub section-window :
+      (k q p : ℕ)
+      → q ≤ p
+      → p + 2 + layout (k + 1) .most * size (k + 1) ≤ length t
+      → judgeSection s k (a + q) (a + p) ≡ moved a (judgeSection t k q p)
+  unfolding judgeSection
+  section-window k q p h l =
+      let e : a + p - (a + q) ≡ p - q = omega arith in
+      rw (
+        e,
+        part-window (p - q) q (omega arith),
+        le-window 2 p (omega arith),
+        le-ltb (length s) (a + p + 2) (omega (arith, w .inside)),
+        le-ltb (length t) (p + 2) (omega arith),
+        add-assoc,
+      )
+      (go (take (p - q) (drop q t)) (ltb (layout (k + 1) .most) (leAt 2 t p)) refl (addsUp (k + 1) (take (p - q) (drop q t)) (leAt 2 t p)) refl)
+    where
+      go :
+          (b : List ℕ) (many : Bool)
+          → ltb (layout (k + 1) .most) (leAt 2 t p) ≡ many
+          → (sum : Bool)
+          → addsUp (k + 1) b (leAt 2 t p) ≡ sum
+          → (on many (refused 4 (a + p))
+          or on (not sum) (refused 5 (a + p))
+          or judgeTable (k + 1) (layout (k + 1) .fields) (size k) b s (a + (p + 2)) (leAt 2 t p))
+          ≡ moved a
+          (on many (refused 4 p)
+          or on (not sum) (refused 5 p)
+          or judgeTable (k + 1) (layout (k + 1) .fields) (size k) b t (p + 2) (leAt 2 t p))
+      go b true e sum f = refl
+      go b false e false f = refl
+      go b false e true f =
+          let m = mul-le-mul-right (size (k + 1)) (ltb-false (layout (k + 1) .most) (leAt 2 t p) e) in
+          table-window (layout (k + 1) .fields) (k + 1) (size k) b (p + 2) (leAt 2 t p) f (omega arith)

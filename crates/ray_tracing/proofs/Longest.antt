@@ -1,0 +1,151 @@
+-- The answer depends on the first longest + 1 bytes only: no section has more than its most records, so a list that is longer is judged
+-- within those bytes, and refused at the latest for the bytes left over.
+use Prim.Native.Nat.{ℕ, zero, suc, _+_, _-_, _*_, _≤_, _<_}
+use native.Mathlib.Nat.{add-zero, zero-add, mul-le-mul-right}
+use native.Mathlib.Numerals.{add-one}
+use native.Mathlib.Omega.{arith}
+use mathlib.Core.Bool.{Bool, true, false, not}
+use mathlib.Core.Path.{_≡_, refl, sym, ap, _∙_}
+use mathlib.Core.List.{List, [], _∷_}
+use lib.Dec.{leb, ltb, eqb}
+use lib.ListN.{length, take, drop}
+use lib.Seq.{take-all, length-take-le}
+use borrow.Author.Tests.{lt-ltb, le-ltb, leb-true, leb-false}
+use Rattle.wire.specs.Wire.{leAt}
+use Rattle.ray_tracing.specs.declared.Sheet.{Sheet}
+use Rattle.ray_tracing.specs.Layout.{layout, size}
+use Rattle.ray_tracing.specs.Reading.{
+  Judged,
+  fine,
+  refused,
+  on,
+  _or_,
+  judgeRecords,
+  begin,
+  past,
+  from,
+  judgeSection,
+  judgeSections,
+  judgeSheet,
+  sheetOf,
+  answer,
+  readSheet,
+  sectionsUpTo,
+  longest,
+}
+use Rattle.ray_tracing.proofs.Reading.{section-most, past-more, from-more}
+use Rattle.ray_tracing.proofs.Windows.{Window, moved, moved-none, window-part, le-window, records-window, section-window}
+
+pub longest-is : longest ≡ 56415
+unfolding sectionsUpTo
+longest-is = refl
+
+-- ---- two that refuse alike
+
+data Alike : Judged → Judged → Type 0 where
+  alike : {n p : ℕ} → Alike (refused n p) (refused n p)
+
+alike-or : (x : Judged) {y z : Judged} → (x ≡ fine → Alike y z) → Alike (x or y) (x or z)
+alike-or fine f = f refl
+alike-or (refused n p) f = alike
+
+or-assoc : (x y z : Judged) → ((x or y) or z) ≡ (x or y or z)
+or-assoc fine y z = refl
+or-assoc (refused n p) y z = refl
+
+alike-answer : {x y : Judged} (a b : Sheet) → Alike x y → answer x a ≡ answer y b
+alike-answer a b alike = refl
+
+-- ---- where sections end
+
+-- at most, section k
+abbrev end : ℕ → ℕ
+end k = 1 + size 0 + sectionsUpTo k
+
+end-more : (k : ℕ) → end (k + 1) ≡ end k + 2 + layout (k + 1) .most * size (k + 1)
+unfolding sectionsUpTo
+end-more k = ap end (add-one k) ∙ omega arith
+
+end-up : (n k : ℕ) → end k ≤ end (k + n)
+end-up zero k = simp add-zero (omega arith)
+end-up (suc n) k =
+    let e : k + suc n ≡ k + 1 + n = omega arith in
+    rw e (omega (arith, end-more k, end-up n (k + 1)))
+
+-- ---- a list that is longer, and a part of it from the start on that is longer too
+
+-- both have section k's end at one place
+record Reached (t s : List ℕ) (k : ℕ) : Type 0 where
+  ends : past t k ≡ past s k
+  begins : from t k ≡ from s k
+  ordered : from s k ≤ past s k
+  near : past s k ≤ end k
+
+module _ {t s : List ℕ} (w : Window 0 t s) (h : longest < length t) where
+  reached : Reached t s 0
+  unfolding past from sectionsUpTo
+  reached = record { ends = refl; begins = refl; ordered = omega arith; near = omega arith }
+
+  module _ (k : ℕ) (r : Reached t s k) (l : end (k + 1) ≤ longest) where
+    same-count : leAt 2 t (past t k) ≡ leAt 2 s (past s k)
+    same-count = rw (r .ends) (sym (rw zero-add at (le-window w 2 (past s k) (omega (arith, end-more k, r .near)))))
+
+    same-section : judgeSection s k (from s k) (past s k) ≡ judgeSection t k (from t k) (past t k)
+    same-section =
+        rw (r .begins, r .ends)
+        (simp (zero-add, moved-none) at (section-window w k (from s k) (past s k) (r .ordered) (omega (arith, end-more k, r .near))))
+
+    reached-more : judgeSection s k (from s k) (past s k) ≡ fine → Reached t s (k + 1)
+    reached-more f =
+        let m = mul-le-mul-right (size (k + 1)) (section-most s k (from s k) (past s k) f) in
+        record {
+          ends = rw (past-more, past-more, same-count, r .ends);
+          begins = rw (from-more, from-more, r .ends);
+          ordered = rw (past-more, from-more) (omega arith);
+          near = rw past-more (omega (arith, end-more k, r .near));
+        }
+
+  sections-alike :
+      (n k : ℕ)
+      → k + n ≡ 9
+      → Reached t s k
+      → Alike
+      (judgeSections s k n or on (ltb (past s 9) (length s)) (refused 3 (past s 9)))
+      (judgeSections t k n or on (ltb (past t 9) (length t)) (refused 3 (past t 9)))
+  unfolding judgeSections
+  sections-alike zero k e r =
+      let z : k ≡ 9 = omega arith in
+      let q = rw z at r in
+      rw (q .ends, lt-ltb (past s 9) (length s) (omega (arith, q .near, w .inside)), lt-ltb (past s 9) (length t) (omega (arith, q .near)))
+      alike
+  sections-alike (suc n) k e r =
+      let z : k + 1 + n ≡ 9 = omega arith in
+      let l : end (k + 1) ≤ longest = rw z at (end-up n (k + 1)) in
+      rw (or-assoc, or-assoc, ← same-section k r l)
+      (alike-or (judgeSection s k (from s k) (past s k)) (λ f. sections-alike n (k + 1) z (reached-more k r l f)))
+
+  sheet-alike : Alike (judgeSheet s) (judgeSheet t)
+  unfolding judgeSheet
+  sheet-alike =
+      rw (
+        le-ltb (length s) 1 (omega (arith, w .inside)),
+        le-ltb (length t) 1 (omega arith),
+        le-window w 1 0 (omega arith),
+        records-window w (layout 0 .fields) (begin 0 [] false) 1 1 (omega arith),
+        moved-none,
+      )
+      (alike-or (on (not (eqb (leAt 1 t 0) 1)) (refused 1 0))
+      (λ e. alike-or (judgeRecords (begin 0 [] false) (layout 0 .fields) t 1 1) (λ f. sections-alike 9 0 refl reached)))
+
+  pub longer : readSheet s ≡ readSheet t
+  unfolding readSheet
+  longer = alike-answer (sheetOf s) (sheetOf t) sheet-alike
+
+pub prefix : (s : List ℕ) → readSheet (take (longest + 1) s) ≡ readSheet s
+prefix s = go (leb (length s) (longest + 1)) refl
+  where
+    go : (b : Bool) → leb (length s) (longest + 1) ≡ b → readSheet (take (longest + 1) s) ≡ readSheet s
+    go true e = ap readSheet (take-all (longest + 1) s (leb-true (length s) (longest + 1) e))
+    go false e =
+        let l = leb-false (length s) (longest + 1) e in
+        sym (longer (window-part 0 (longest + 1) s (omega arith)) (omega (arith, length-take-le (longest + 1) s (omega arith))))
