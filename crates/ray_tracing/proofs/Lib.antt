@@ -1,8 +1,10 @@
 pub mod Guard
+pub mod Each
 pub mod Reading
 pub mod Windows
 pub mod Numbers
 pub mod Instances
 pub mod Mentions
 pub mod Causes
+pub mod Sheets
 pub mod Longest

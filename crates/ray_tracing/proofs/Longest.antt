@@ -28,12 +28,14 @@ use Rattle.ray_tracing.specs.Reading.{
   judgeSections,
   judgeSheet,
   sheetOf,
+  accepted,
   answer,
   readSheet,
   sectionsUpTo,
   longest,
 }
-use Rattle.ray_tracing.proofs.Reading.{section-most, past-more, from-more}
+use Rattle.ray_tracing.proofs.Reading.{refused-not-fine, section-most, past-more, from-more}
+use Rattle.ray_tracing.proofs.Sheets.{accepted-judged}
 use Rattle.ray_tracing.proofs.Windows.{Window, moved, moved-none, window-part, le-window, records-window, section-window}
 
 pub longest-is : longest ≡ 56415
@@ -52,6 +54,9 @@ alike-or (refused n p) f = alike
 or-assoc : (x y z : Judged) → ((x or y) or z) ≡ (x or y or z)
 or-assoc fine y z = refl
 or-assoc (refused n p) y z = refl
+
+alike-refuses : {x y : Judged} → Alike x y → x ≡ fine → ⊥
+alike-refuses (alike {n} {p}) e = refused-not-fine n p e
 
 alike-answer : {x y : Judged} (a b : Sheet) → Alike x y → answer x a ≡ answer y b
 alike-answer a b alike = refl
@@ -149,3 +154,13 @@ prefix s = go (leb (length s) (longest + 1)) refl
     go false e =
         let l = leb-false (length s) (longest + 1) e in
         sym (longer (window-part 0 (longest + 1) s (omega arith)) (omega (arith, length-take-le (longest + 1) s (omega arith))))
+
+-- no sheet that is accepted is longer
+pub accepted-longest : (s : List ℕ) (x : Sheet) → readSheet s ≡ accepted x → length s ≤ longest
+accepted-longest s x e = go (leb (length s) longest) refl
+  where
+    go : (b : Bool) → leb (length s) longest ≡ b → length s ≤ longest
+    go true f = leb-true (length s) longest f
+    go false f =
+        let w : Window 0 s s = record { inside = omega arith; same = λ i h. rw zero-add } in
+        absurd (alike-refuses (sheet-alike w (leb-false (length s) longest f)) (accepted-judged s x e))

@@ -1,6 +1,7 @@
 pub mod Guard
 pub mod Layout
 pub mod Reading
+pub mod Writing
 pub mod Records
 pub mod Causes
 pub mod Checks
