@@ -8,3 +8,4 @@ pub mod Mentions
 pub mod Causes
 pub mod Sheets
 pub mod Longest
+pub mod Writing
