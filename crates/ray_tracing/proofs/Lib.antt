@@ -9,3 +9,6 @@ pub mod Causes
 pub mod Sheets
 pub mod Longest
 pub mod Writing
+pub mod Tables
+pub mod Firsts
+pub mod Judging

@@ -11,3 +11,5 @@ pub mod Mentions
 pub mod Instances
 pub mod Plan
 pub mod Submission
+pub mod History
+pub mod Claim
