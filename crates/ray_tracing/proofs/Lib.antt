@@ -12,3 +12,4 @@ pub mod Writing
 pub mod Tables
 pub mod Firsts
 pub mod Judging
+pub mod Sound
