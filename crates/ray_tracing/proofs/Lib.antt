@@ -13,3 +13,4 @@ pub mod Tables
 pub mod Firsts
 pub mod Judging
 pub mod Sound
+pub mod Cuts
