@@ -13,6 +13,8 @@ use Rattle.ray_tracing.specs.declared.Resource.{Resource}
 use Rattle.ray_tracing.specs.declared.Resource.the-variants as resource
 use Rattle.ray_tracing.specs.declared.BuildAccelerationStructureError.{BuildAccelerationStructureError}
 use Rattle.ray_tracing.specs.declared.BuildAccelerationStructureError.the-variants as build
+use Rattle.ray_tracing.specs.declared.ValidateAsActionsError.{ValidateAsActionsError}
+use Rattle.ray_tracing.specs.declared.ValidateAsActionsError.the-variants as submission
 use Rattle.ray_tracing.specs.Reading as reading
 
 -- "version not 1; sheet ends early; bytes after it | 1; 2; 3", "count above its limit; value outside its field | 4; 5"
@@ -86,3 +88,17 @@ buildCause (build.TlasInstanceCountExceeded count most) = cause 36 count most 0
 buildCause build.OutOfMemory = bare 37
 buildCause build.CompactedBlas = bare 38
 buildCause build.OutputTooShort = bare 39
+
+-- a submission's causes, the action apart
+abbrev pub submissionCause : ValidateAsActionsError → Cause
+submissionCause submission.TooMany = bare 4
+submissionCause submission.InvalidValue = bare 5
+submissionCause submission.InvalidResource = bare 6
+submissionCause (submission.DestroyedResource b) = cause 21 (b .0) 0 0
+submissionCause submission.OutputTooShort = bare 39
+submissionCause submission.CounterExhausted = bare 40
+submissionCause (submission.CompactedBlas b) = cause 41 (b .0) 0 0
+submissionCause (submission.UsedUnbuiltBlas b t) = cause 42 (b .0) (t .0) 0
+submissionCause (submission.UsedTlasOfUnbuiltBlas t b) = cause 42 (t .0) (b .0) 0
+submissionCause (submission.UsedUnbuiltTlas t) = cause 43 (t .0) 0 0
+submissionCause (submission.BlasNewerThenTlas b t) = cause 44 (b .0) (t .0) 0

@@ -262,6 +262,28 @@ pub enum CheckedGeometry {
     Refused(BuildAccelerationStructureError),
 }
 
+// Why a submission is refused. The Rust's names, and those that the paper adds: where the Rust panics, ids and values of lent tables and
+// lists, room. The Rust has `UsedUnbuiltBlas` for a use too, with the Tlas first.
+pub enum ValidateAsActionsError {
+    TooMany,
+    InvalidValue,
+    InvalidResource,
+    DestroyedResource(BlasId),
+    OutputTooShort,
+    CounterExhausted,
+    CompactedBlas(BlasId),
+    UsedUnbuiltBlas(BlasId, TlasId),
+    UsedTlasOfUnbuiltBlas(TlasId, BlasId),
+    UsedUnbuiltTlas(TlasId),
+    BlasNewerThenTlas(BlasId, TlasId),
+}
+
+// What a submission comes to: accepted, or the first refusal with its action; and the counter that is left.
+pub enum Submitted {
+    Accepted(u64),
+    Refused(ValidateAsActionsError, usize, u64),
+}
+
 pub fn both(a: bool, b: bool) -> bool
     ensures { λ r. ⌜ r ≡ (a && b) ⌝ }
 {
