@@ -14,3 +14,4 @@ pub mod Firsts
 pub mod Judging
 pub mod Sound
 pub mod Cuts
+pub mod Inside
