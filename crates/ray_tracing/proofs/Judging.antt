@@ -140,9 +140,9 @@ module _ (n b : ℕ) (s : List ℕ) (f : n < 2 ^ 64) (l : b < length s / size 2)
   blas-record j e =
       elim (ℕ-discrete j b) [
         | yes q ↦ rw q (
-              blas-judged c (builtBlas n b s) (b * size 2)
-              ∙ (λ i. blas-fields (built-length n b s i) (b * size 2) (built-same n b s (omega arith) f i))
-              ∙ blas-kept (length s) (b * size 2) n (blasAt s (b * size 2)) (sym (blas-judged c s (b * size 2)) ∙ (rw q at e)))
+            blas-judged c (builtBlas n b s) (b * size 2)
+            ∙ (λ i. blas-fields (built-length n b s i) (b * size 2) (built-same n b s (omega arith) f i))
+            ∙ blas-kept (length s) (b * size 2) n (blasAt s (b * size 2)) (sym (blas-judged c s (b * size 2)) ∙ (rw q at e)))
         | no d ↦ fields-cong (layout 2 .fields) c (builtBlas n b s) s (j * size 2) (built-length n b s) (λ k m. bytes j d k m) ∙ e
       ]
     where
@@ -159,9 +159,9 @@ module _ (n b : ℕ) (s : List ℕ) (f : n < 2 ^ 64) (l : b < length s / size 4)
   tlas-record j e =
       elim (ℕ-discrete j b) [
         | yes q ↦ rw q (
-              tlas-judged c (builtTlas n b s) (b * size 4)
-              ∙ (λ i. tlas-fields (raised-length n b s i) (b * size 4) (raised-same n b s (omega arith) f i))
-              ∙ tlas-kept (length s) (b * size 4) n (tlasAt s (b * size 4)) (sym (tlas-judged c s (b * size 4)) ∙ (rw q at e)))
+            tlas-judged c (builtTlas n b s) (b * size 4)
+            ∙ (λ i. tlas-fields (raised-length n b s i) (b * size 4) (raised-same n b s (omega arith) f i))
+            ∙ tlas-kept (length s) (b * size 4) n (tlasAt s (b * size 4)) (sym (tlas-judged c s (b * size 4)) ∙ (rw q at e)))
         | no d ↦ fields-cong (layout 4 .fields) c (builtTlas n b s) s (j * size 4) (raised-length n b s) (λ k m. bytes j d k m) ∙ e
       ]
     where

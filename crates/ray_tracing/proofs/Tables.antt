@@ -97,7 +97,7 @@ module _ (n b : ℕ) (t : List ℕ) where
         le-before 1 m u (at + 20) (at + 3) (omega arith) ∙ le-past 1 (leBytes 1 0) t (at + 2) (at + 3) (omega arith),
         le-before 8 m u (at + 20) (at + 4) (omega arith) ∙ le-past 8 (leBytes 1 0) t (at + 2) (at + 4) (omega arith),
         le-before 8 m u (at + 20) (at + 12) (omega arith) ∙ le-past 8 (leBytes 1 0) t (at + 2) (at + 12) (omega arith),
-        le-same 8 u (at + 20) n k (omega arith)
+        le-same 8 u (at + 20) n k (omega arith),
       )
 
 -- ---- a Tlas that was built
@@ -143,7 +143,7 @@ module _ (n i : ℕ) (t : List ℕ) where
         le-before 1 m t (at + 14) (at + 1) (omega arith),
         le-before 8 m t (at + 14) (at + 2) (omega arith),
         le-before 4 m t (at + 14) (at + 10) (omega arith),
-        le-same 8 t (at + 14) n k (omega arith)
+        le-same 8 t (at + 14) n k (omega arith),
       )
 
 -- ---- lists
