@@ -15,7 +15,7 @@ use scratch::product_above;
 use scratch::saturating_mul;
 ghost use mathlib.Core.Path.{_≡_};
 ghost use Prim.Native.Nat.{_+_, _*_, _%_, _≤_};
-ghost use lib.Dec.{eqb, ltb};
+ghost use lib.Dec.{ltb};
 ghost use Rattle.scratch.specs.Scratch.{stopped};
 ghost use Rattle.ray_tracing.specs.Guard.{neb};
 ghost use Rattle.ray_tracing.specs.Checks.{_then_, declaredOf, lentOf, checkedOf};
@@ -100,32 +100,38 @@ fn check_index_sizes(d: BlasGeometrySizeDescriptor, g: BlasGeometry, has_buffer:
 }
 
 // The vertices: 21, 22, 23. The products first, then the tests.
-fn check_vertices(g: BlasGeometry, b: Buffer) -> Vertices
-    ensures { λ r. ⌜ verticesOf r ≡ verticesRule g b ⌝ }
+fn check_vertices(g: BlasGeometry, vertices: Buffer) -> Vertices
+    ensures { λ r. ⌜ verticesOf r ≡ verticesRule g vertices ⌝ }
 {
     let last = g.first as u64 + g.count as u64;
     let offset = saturating_mul(g.first as u64, g.stride);
     let region = saturating_mul(g.count as u64, g.stride);
-    let over = product_above(last, g.stride, b.size);
-    judge_vertices(g, offset, region, over, b)
+    let over = product_above(last, g.stride, vertices.size);
+    judge_vertices(g, offset, region, over, vertices)
 }
 
-fn judge_vertices(g: BlasGeometry, offset: u64, region: u64, over: bool, b: Buffer) -> Vertices
-    requires { ⌜ (offset ≡ stopped (g .first * g .stride)) × (region ≡ stopped (g .count * g .stride)) × (over ≡ ltb (b .size) ((g .first + g .count) * g .stride)) ⌝ }
-    ensures { λ r. ⌜ verticesOf r ≡ verticesRule g b ⌝ }
+fn judge_vertices(
+    g: BlasGeometry,
+    offset: u64,
+    region: u64,
+    over: bool,
+    vertices: Buffer,
+) -> Vertices
+    requires { ⌜ (offset ≡ stopped (g .first * g .stride)) × (region ≡ stopped (g .count * g .stride)) × (over ≡ ltb (vertices .size) ((g .first + g .count) * g .stride)) ⌝ }
+    ensures { λ r. ⌜ verticesOf r ≡ verticesRule g vertices ⌝ }
 {
     let buffer = g.buffer;
-    if b.destroyed {
+    if vertices.destroyed {
         return Vertices::Refused(Error::DestroyedResource(Resource::Buffer(buffer)));
     }
-    if !b.blas_input {
+    if !vertices.blas_input {
         return Vertices::Refused(Error::MissingBufferUsage(buffer));
     }
     if over {
         return Vertices::Refused(Error::InsufficientBufferSize {
             offset,
             region_size: region,
-            buffer_size: b.size,
+            buffer_size: vertices.size,
         });
     }
     let start = offset;
@@ -141,8 +147,8 @@ fn index_width(format: u8) -> u64
 }
 
 // The indices: 24, 21, 22, 25, then their region.
-fn check_indices(g: BlasGeometry, b: Buffer) -> Part
-    ensures { λ r. ⌜ partOf r ≡ indicesRule g (indexWidth (g .«index_format»)) b ⌝ }
+fn check_indices(g: BlasGeometry, index: Buffer) -> Part
+    ensures { λ r. ⌜ partOf r ≡ indicesRule g (indexWidth (g .«index_format»)) index ⌝ }
 {
     let buffer = g.index_buffer;
     if g.first_index_present == 0 {
@@ -151,36 +157,36 @@ fn check_indices(g: BlasGeometry, b: Buffer) -> Part
     if g.index_count_present == 0 {
         return Part::Refused(Error::MissingAssociatedData);
     }
-    if b.destroyed {
+    if index.destroyed {
         return Part::Refused(Error::DestroyedResource(Resource::Buffer(buffer)));
     }
-    if !b.blas_input {
+    if !index.blas_input {
         return Part::Refused(Error::MissingBufferUsage(buffer));
     }
     if g.index_format == 0 {
         return Part::Refused(Error::MissingIndexFormat);
     }
-    check_index_region(g, b)
+    check_index_region(g, index)
 }
 
 // 26, 26, 27, 23.
-fn check_index_region(g: BlasGeometry, b: Buffer) -> Part
-    ensures { λ r. ⌜ partOf r ≡ indexRegionRule g (indexWidth (g .«index_format»)) b ⌝ }
+fn check_index_region(g: BlasGeometry, index: Buffer) -> Part
+    ensures { λ r. ⌜ partOf r ≡ indexRegionRule g (indexWidth (g .«index_format»)) index ⌝ }
 {
     let width = index_width(g.index_format);
-    judge_index_region(g, width, b)
+    judge_index_region(g, width, index)
 }
 
-fn judge_index_region(g: BlasGeometry, width: u64, b: Buffer) -> Part
+fn judge_index_region(g: BlasGeometry, width: u64, index: Buffer) -> Part
     requires { ⌜ width ≤ 4 ⌝ }
-    ensures { λ r. ⌜ partOf r ≡ indexRegionRule g width b ⌝ }
+    ensures { λ r. ⌜ partOf r ≡ indexRegionRule g width index ⌝ }
 {
-    let offset = g.first_index as u64 * width;
+    let start = g.first_index as u64 * width;
     let region = g.index_count as u64 * width;
     let buffer = g.index_buffer;
-    if LIMIT < offset {
+    if LIMIT < start {
         return Part::Refused(Error::OffsetLimitedTo4GB {
-            offset,
+            offset: start,
             count: g.first_index as u64,
             stride: width,
         });
@@ -195,21 +201,20 @@ fn judge_index_region(g: BlasGeometry, width: u64, b: Buffer) -> Part
     if g.index_count % 3 != 0 {
         return Part::Refused(Error::InvalidIndexCount(g.index_count));
     }
-    let end = offset + region;
-    if b.size < end {
+    let end = start + region;
+    if index.size < end {
         return Part::Refused(Error::InsufficientBufferSize {
-            offset,
+            offset: start,
             region_size: region,
-            buffer_size: b.size,
+            buffer_size: index.size,
         });
     }
-    let start = offset;
     Part::Fine(Asked::Of(Range { buffer, start, end }))
 }
 
 // The transform: 28, 24, 21, 22, 26, 29, 23.
-fn check_transform(flags: u8, g: BlasGeometry, b: Buffer) -> Part
-    ensures { λ r. ⌜ partOf r ≡ transformRule flags g b ⌝ }
+fn check_transform(flags: u8, g: BlasGeometry, transform: Buffer) -> Part
+    ensures { λ r. ⌜ partOf r ≡ transformRule flags g transform ⌝ }
 {
     let buffer = g.transform_buffer;
     let offset = g.transform_buffer_offset;
@@ -219,10 +224,10 @@ fn check_transform(flags: u8, g: BlasGeometry, b: Buffer) -> Part
     if g.transform_buffer_offset_present == 0 {
         return Part::Refused(Error::MissingAssociatedData);
     }
-    if b.destroyed {
+    if transform.destroyed {
         return Part::Refused(Error::DestroyedResource(Resource::Buffer(buffer)));
     }
-    if !b.blas_input {
+    if !transform.blas_input {
         return Part::Refused(Error::MissingBufferUsage(buffer));
     }
     if LIMIT < offset {
@@ -236,11 +241,11 @@ fn check_transform(flags: u8, g: BlasGeometry, b: Buffer) -> Part
         return Part::Refused(Error::UnalignedTransformBufferOffset);
     }
     let end = offset + 48;
-    if b.size < end {
+    if transform.size < end {
         return Part::Refused(Error::InsufficientBufferSize {
             offset,
             region_size: 48,
-            buffer_size: b.size,
+            buffer_size: transform.size,
         });
     }
     let start = offset;
@@ -355,23 +360,23 @@ pub fn check_triangles(
 }
 
 // The boxes' buffer: 21, 22, 26, 23. The product first, then the tests.
-fn check_region(g: BlasGeometry, b: Buffer) -> CheckedGeometry
-    ensures { λ r. ⌜ checkedOf r ≡ regionRule g b ⌝ }
+fn check_region(g: BlasGeometry, boxes: Buffer) -> CheckedGeometry
+    ensures { λ r. ⌜ checkedOf r ≡ regionRule g boxes ⌝ }
 {
     let region = saturating_mul(g.count as u64, g.stride);
-    judge_region(g, region, b)
+    judge_region(g, region, boxes)
 }
 
-fn judge_region(g: BlasGeometry, region: u64, b: Buffer) -> CheckedGeometry
+fn judge_region(g: BlasGeometry, region: u64, boxes: Buffer) -> CheckedGeometry
     requires { ⌜ region ≡ stopped (g .count * g .stride) ⌝ }
-    ensures { λ r. ⌜ checkedOf r ≡ regionRule g b ⌝ }
+    ensures { λ r. ⌜ checkedOf r ≡ regionRule g boxes ⌝ }
 {
     let buffer = g.buffer;
     let start = g.first as u64;
-    if b.destroyed {
+    if boxes.destroyed {
         return CheckedGeometry::Refused(Error::DestroyedResource(Resource::Buffer(buffer)));
     }
-    if !b.blas_input {
+    if !boxes.blas_input {
         return CheckedGeometry::Refused(Error::MissingBufferUsage(buffer));
     }
     if LIMIT < g.stride || LIMIT < region {
@@ -382,11 +387,11 @@ fn judge_region(g: BlasGeometry, region: u64, b: Buffer) -> CheckedGeometry
         });
     }
     let end = start + region;
-    if b.size < end {
+    if boxes.size < end {
         return CheckedGeometry::Refused(Error::InsufficientBufferSize {
             offset: start,
             region_size: region,
-            buffer_size: b.size,
+            buffer_size: boxes.size,
         });
     }
     CheckedGeometry::Fine {
@@ -397,8 +402,8 @@ fn judge_region(g: BlasGeometry, region: u64, b: Buffer) -> CheckedGeometry
 }
 
 // 12, 31, 32, 33, then the buffer.
-fn check_sizes(d: BlasGeometrySizeDescriptor, g: BlasGeometry, b: Buffer) -> CheckedGeometry
-    ensures { λ r. ⌜ checkedOf r ≡ givenRule d g b ⌝ }
+fn check_sizes(d: BlasGeometrySizeDescriptor, g: BlasGeometry, boxes: Buffer) -> CheckedGeometry
+    ensures { λ r. ⌜ checkedOf r ≡ givenRule d g boxes ⌝ }
 {
     if d.flags != g.flags {
         return CheckedGeometry::Refused(Error::IncompatibleBlasFlags(d.flags, g.flags));
@@ -415,18 +420,23 @@ fn check_sizes(d: BlasGeometrySizeDescriptor, g: BlasGeometry, b: Buffer) -> Che
     if g.stride < 24 || g.stride % 8 != 0 {
         return CheckedGeometry::Refused(Error::InvalidAabbStride(g.stride));
     }
-    check_region(g, b)
+    check_region(g, boxes)
 }
 
 // 10, 11, and then what the declared sizes rule.
-pub fn check_aabbs(blas: Blas, declared: Declared, g: BlasGeometry, b: Buffer) -> CheckedGeometry
-    ensures { λ r. ⌜ checkedOf r ≡ boxesRule blas (declaredOf declared) g b ⌝ }
+pub fn check_aabbs(
+    blas: Blas,
+    declared: Declared,
+    g: BlasGeometry,
+    boxes: Buffer,
+) -> CheckedGeometry
+    ensures { λ r. ⌜ checkedOf r ≡ boxesRule blas (declaredOf declared) g boxes ⌝ }
 {
     if blas.kind != 1 {
         return CheckedGeometry::Refused(Error::BlasGeometryKindMismatch);
     }
     match declared {
         Declared::Missing => CheckedGeometry::Refused(Error::IncompatibleBlasBuildSizes),
-        Declared::Given(d) => check_sizes(d, g, b),
+        Declared::Given(d) => check_sizes(d, g, boxes),
     }
 }

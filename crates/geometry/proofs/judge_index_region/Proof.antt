@@ -6,8 +6,8 @@ use borrow.Author.Needs.{needs}
 use Rattle.geometry.proofs.judge_index_region.Statement.{statement}
 use Rattle.geometry.proofs.judge_index_region.Tie as tie
 
-mul-offset : tie.Need-mul-offset
-mul-offset c = omega (arith, narrow (c .before .args .g .«first_index») (c .before .args .width) (omega arith) (c .before .pre))
+mul-start : tie.Need-mul-start
+mul-start c = omega (arith, narrow (c .before .args .g .«first_index») (c .before .args .width) (omega arith) (c .before .pre))
 
 mul-region : tie.Need-mul-region
 mul-region c = omega (arith, narrow (c .before .before .args .g .«index_count») (c .before .before .args .width) (omega arith) (c .before .before .pre))
@@ -17,7 +17,7 @@ judge-index-region-spec =
     tie.close
     (tie.spec
     (λ c. search needs)
-    mul-offset
+    mul-start
     (λ c. search needs)
     mul-region
     (λ c. search needs)

@@ -15,14 +15,14 @@ add-end : tie.Need-add-end
 add-end c =
     let s = c .before .before .before .before .before in
     let a = s .args in
-    omega (arith, within (a .g .first) (a .g .count) (a .g .stride) (a .b .size) (a .over) (s .pre .2) (c .if3 .left))
+    omega (arith, within (a .g .first) (a .g .count) (a .g .stride) (a .vertices .size) (a .over) (s .pre .2) (c .if3 .left))
 
 returns-4 : tie.Need-returns-4
 returns-4 c =
     let s = c .before .before .before .before .before in
     let a = s .args in
-    let offset = exact-offset (a .g .first) (a .g .count) (a .g .stride) (a .b .size) (a .over) (s .pre .2) (c .if3 .left) (omega arith) in
-    let region = exact-region (a .g .first) (a .g .count) (a .g .stride) (a .b .size) (a .over) (s .pre .2) (c .if3 .left) (omega arith) in
+    let offset = exact-offset (a .g .first) (a .g .count) (a .g .stride) (a .vertices .size) (a .over) (s .pre .2) (c .if3 .left) (omega arith) in
+    let region = exact-region (a .g .first) (a .g .count) (a .g .stride) (a .vertices .size) (a .over) (s .pre .2) (c .if3 .left) (omega arith) in
     rw (s .pre .0 ∙ offset, s .pre .1 ∙ region) (search guards depth 16)
 
 pub judge-vertices-spec : {M : Type 1} → statement M
