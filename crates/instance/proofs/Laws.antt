@@ -1,19 +1,31 @@
 -- Laws of arrays that a loop fills, of writes end to end, and of the judging of an instance by its cases.
-use mathlib.Core.Path.{_≡_, refl, sym, ap, _∙_}
+use mathlib.Core.Path.{_≡_, refl, sym, ap, _∙_, subst}
 use mathlib.Core.List.{List, [], _∷_, _++_, append-assoc}
-use Prim.Native.Nat.{ℕ, zero, suc, _+_, _*_, _^_, _≤_, _<_}
+use Prim.Native.Nat.{ℕ, zero, suc, _+_, _*_, _/_, _^_, _≤_, _<_}
 use native.Mathlib.Numerals.{add-one}
 use native.Mathlib.Omega.{arith}
 use lib.ListN.{length, take, getD, set, length-append}
 use lib.Seq.{sets, take-suc, take-suc-set, take-all, length-take-le}
-use mathlib.Core.Bool.{true, false}
-use borrow.Author.Tests.{le-leb, lt-leb}
+use mathlib.Core.Bool.{Bool, true, false}
+use lib.Dec.{leb}
+use borrow.Author.Tests.{le-leb, lt-leb, lt-ltb, le-ltb, leb-true, leb-false, eq-eqb, ne-eqb}
 use Rattle.wire.specs.Wire.{leBytes}
-use Rattle.wire.proofs.Laws.{length-leBytes, sets-append}
+use Rattle.wire.proofs.Laws.{sets-append}
 use Rattle.ray_tracing.specs.declared.Tlas.{Tlas}
 use Rattle.ray_tracing.specs.declared.Blas.{Blas}
+use Rattle.ray_tracing.specs.declared.TlasId.{TlasId}
+use Rattle.ray_tracing.specs.declared.TlasInstance.{TlasInstance}
+use Rattle.ray_tracing.specs.declared.CheckedInstance.{CheckedInstance}
+use Rattle.ray_tracing.specs.declared.CheckedInstance.the-variants.{Fine, Refused}
+use Rattle.ray_tracing.specs.declared.BuildAccelerationStructureError.{BuildAccelerationStructureError}
 use Rattle.ray_tracing.specs.Guard.{refuse}
-use Rattle.ray_tracing.specs.Instances.{words, returnsVertices, instanceRule}
+use Rattle.ray_tracing.specs.Records.{fieldAt}
+use Rattle.ray_tracing.specs.Causes.{Cause, bare, buildCause}
+use Rattle.ray_tracing.specs.Mentions.{_else_, blasMention, tlasMention, blasOf, tlasOf}
+use Rattle.ray_tracing.specs.Instances.{words, instanceBytes, returnsVertices, instanceRule, namedInstanceRule, instanceAt, addressFor, slotMention, slotRule, instanceCause, Appending, inUse, refused, namedTlasRule, roomRule, outcome, appendRule, bytesAfter, appendBytes}
+use Rattle.ray_tracing.proofs.Causes.{positive}
+use Rattle.ray_tracing.proofs.Mentions.{mention-inside, else-zero}
+use Rattle.instance.specs.Writable.{Writable}
 use Rattle.ray_tracing.proofs.Instances.{length-words, words-snoc}
 
 -- an array that a loop fills from index 0 on, up to what T says
@@ -72,3 +84,75 @@ module _ (tlas : Tlas) (blas : Blas) (custom : ℕ) where
     pub rule-missing : returnsVertices (tlas .flags) ≡ true → returnsVertices (blas .flags) ≡ false → 35 ≡ instanceRule tlas blas custom
     unfolding refuse
     rule-missing p q = rw (lt-leb (2 ^ 24) custom narrow, p, q)
+
+  pub rule-narrow : instanceRule tlas blas custom ≡ 0 → custom < 2 ^ 24
+  rule-narrow e = go (leb (2 ^ 24) custom) refl
+    where
+      go : (b : Bool) → leb (2 ^ 24) custom ≡ b → custom < 2 ^ 24
+      go false p = leb-false (2 ^ 24) custom p
+      go true p = let z : 34 ≡ instanceRule tlas blas custom = rule-custom (leb-true (2 ^ 24) custom p) in absurd (omega arith)
+
+-- ---- a slot
+
+module _ (blases s : List ℕ) (at : ℕ) where
+  module _ (absent : fieldAt 8 s at 0 ≡ 0) where
+    pub mention-absent : 0 ≡ slotMention blases s at
+    mention-absent = rw (eq-eqb (fieldAt 8 s at 0) 0 absent)
+
+    pub slot-absent : (tlas : Tlas) → 0 ≡ slotRule tlas blases s at
+    slot-absent tlas = rw (eq-eqb (fieldAt 8 s at 0) 0 absent)
+
+  module _ (present : fieldAt 8 s at 0 ≡ 0 → ⊥) where
+    pub mention-present : blasMention blases (instanceAt s at .blas .0) ≡ slotMention blases s at
+    mention-present = rw (ne-eqb (fieldAt 8 s at 0) 0 present)
+
+    pub slot-present : (tlas : Tlas) → instanceRule tlas (blasOf blases (instanceAt s at .blas .0)) (instanceAt s at .«custom_data») ≡ slotRule tlas blases s at
+    slot-present tlas = rw (ne-eqb (fieldAt 8 s at 0) 0 present)
+
+    -- what was judged may be written
+    pub writable : (tlas : Tlas) → slotMention blases s at ≡ 0 → slotRule tlas blases s at ≡ 0 → Writable blases s at
+    writable tlas m r =
+        record {
+          inside = mention-inside 28 blases (instanceAt s at .blas .0) (mention-present ∙ m);
+          narrow = rule-narrow tlas (blasOf blases (instanceAt s at .blas .0)) (instanceAt s at .«custom_data») (slot-present tlas ∙ r);
+        }
+
+-- ---- appending one instance
+
+pub fine-is : (r : CheckedInstance) (n : ℕ) → instanceCause r ≡ bare n → r ≡ Fine → n ≡ 0
+fine-is r n e told = ap (λ (c : Cause). c .number) (sym e ∙ ap instanceCause told)
+
+outcome-refused : (n room used : ℕ) → 0 < n → refused (bare n) ≡ outcome (n else room) used
+outcome-refused zero room used h = absurd (omega arith)
+outcome-refused (suc n) room used h = refl
+
+module _ (tlases blases : List ℕ) (tlas : TlasId) (i : TlasInstance) (instances : List ℕ) (used : ℕ) where
+  pub when-refused : (r : CheckedInstance) (e : BuildAccelerationStructureError) → instanceCause r ≡ bare (namedTlasRule tlases blases tlas i) → r ≡ Refused e
+      → (refused (buildCause e) ≡ appendRule tlases blases tlas i (length instances) used) × (instances ≡ appendBytes tlases blases tlas i instances used)
+  unfolding appendRule appendBytes
+  when-refused r e judged told =
+      let n = namedTlasRule tlases blases tlas i in
+      let new = sets instances used (instanceBytes i (addressFor blases i)) in
+      let is : buildCause e ≡ bare n = sym (ap instanceCause told) ∙ judged in
+      let out = ap refused is ∙ outcome-refused n (roomRule (length instances) used) used (subst (λ (c : Cause). 0 < c .number) is (positive e)) in
+      (out, ap (λ (o : Appending). bytesAfter o new instances) out)
+
+  module _ (fine : namedTlasRule tlases blases tlas i ≡ 0) where
+    pub named-inside : (i .blas .0 < length blases / 28) × (i .«custom_data» < 2 ^ 24)
+    unfolding namedTlasRule
+    named-inside =
+        let t = tlasOf tlases (tlas .0) in
+        let b = blasOf blases (i .blas .0) in
+        let after = else-zero (tlasMention tlases (tlas .0)) (namedInstanceRule t blases i) fine .1 in
+        let both = else-zero (blasMention blases (i .blas .0)) (instanceRule t b (i .«custom_data»)) after in
+        (mention-inside 28 blases (i .blas .0) (both .0), rule-narrow t b (i .«custom_data») (both .1))
+
+    pub when-short : length instances < used + 64
+        → (refused (bare 39) ≡ appendRule tlases blases tlas i (length instances) used) × (instances ≡ appendBytes tlases blases tlas i instances used)
+    unfolding appendRule appendBytes refuse
+    when-short h = let t = lt-ltb (length instances) (used + 64) h in (rw (fine, t), rw (fine, t))
+
+    pub when-done : used + 64 ≤ length instances
+        → (inUse (used + 64) ≡ appendRule tlases blases tlas i (length instances) used) × (sets instances used (instanceBytes i (addressFor blases i)) ≡ appendBytes tlases blases tlas i instances used)
+    unfolding appendRule appendBytes refuse
+    when-done h = let t = le-ltb (length instances) (used + 64) h in (rw (fine, t), rw (fine, t))

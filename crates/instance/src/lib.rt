@@ -187,3 +187,113 @@ pub fn address_of(blases: &[u8], blas: BlasId) -> u64
 {
     u64_at(blases, blas.0 as usize * 28 + 12)
 }
+
+// Appends one instance of a Tlas to the instances in use, or refuses and writes nothing.
+pub fn append_instance(
+    tlases: &[u8],
+    blases: &[u8],
+    tlas: TlasId,
+    instance: TlasInstance,
+    instances: &mut [u8],
+    used: usize,
+) -> Appended
+    ensures { λ r. ⌜ appendedOf r ≡ appendRule (now (tlases .entry)) (now (blases .entry)) tlas instance (length (now (instances .entry))) used ⌝ }
+    ensures { λ _. ⌜ now (instances .exit) ≡ appendBytes (now (tlases .entry)) (now (blases .entry)) tlas instance (now (instances .entry)) used ⌝ }
+{
+    let checked = check_named_tlas(tlases, blases, tlas, instance);
+    match checked {
+        CheckedInstance::Refused(e) => Appended::Refused(e),
+        CheckedInstance::Fine => {
+            if used <= instances.len() {
+                if 64 <= instances.len() - used {
+                    let address = address_of(blases, instance.blas);
+                    put_instance(instances, used, instance, address);
+                    return Appended::InUse(used + 64);
+                }
+            }
+            Appended::Refused(BuildAccelerationStructureError::OutputTooShort)
+        }
+    }
+}
+
+// What a build judges of the slot at a place: 6 for its Blas, and later 34, 35.
+pub fn slot_mention(blases: &[u8], slots: &[u8], at: usize) -> Mentioned
+    requires { ⌜ at + 56 ≤ length (now slots) ⌝ }
+    ensures { λ r. ⌜ mentionOf r ≡ slotMention (now (blases .entry)) (now (slots .entry)) at ⌝ }
+{
+    if u8_at(slots, at) == 0 {
+        return Mentioned::Inside;
+    }
+    blas_mention(blases, u16_at(slots, at + 1) as usize)
+}
+
+pub fn check_slot(tlas: Tlas, blases: &[u8], slots: &[u8], at: usize) -> CheckedInstance
+    requires { ⌜ (at + 56 ≤ length (now slots)) × (slotMention (now blases) (now slots) at ≡ 0) ⌝ }
+    ensures { λ r. ⌜ instanceCause r ≡ bare (slotRule tlas (now (blases .entry)) (now (slots .entry)) at) ⌝ }
+{
+    if u8_at(slots, at) == 0 {
+        return CheckedInstance::Fine;
+    }
+    let id = u16_at(slots, at + 1) as usize;
+    check_instance(tlas, blas_at(blases, id * 28), u32_at(slots, at + 3))
+}
+
+// Writes what the slot at a place writes, from index end on, and returns the index past it.
+pub fn put_slot(blases: &[u8], slots: &[u8], at: usize, instances: &mut [u8], end: usize) -> usize
+    requires { ⌜ (at + 56 ≤ length (now slots)) × (end + length (slotBytes (now blases) (now slots) at) ≤ length (now instances)) ⌝ }
+    requires { ⌜ ((fieldAt 8 (now slots) at 0 ≡ 0 → ⊥) → Writable (now blases) (now slots) at) ⌝ }
+    ensures { λ r. ⌜ r ≡ end + length (slotBytes (now (blases .entry)) (now (slots .entry)) at) ⌝ }
+    ensures { λ _. ⌜ now (instances .exit) ≡ sets (now (instances .entry)) end (slotBytes (now (blases .entry)) (now (slots .entry)) at) ⌝ }
+{
+    if u8_at(slots, at) == 0 {
+        return end;
+    }
+    let instance = instance_from(slots, at + 1);
+    let address = address_of(blases, instance.blas);
+    put_instance(instances, end, instance, address);
+    end + 64
+}
+
+// Writes what count slots from slot first on write, from index at on, and returns the index past it.
+pub fn put_slots(
+    blases: &[u8],
+    slots: &[u8],
+    first: usize,
+    count: usize,
+    instances: &mut [u8],
+    at: usize,
+) -> usize
+    requires { ⌜ ((first + count) * 56 ≤ length (now slots)) × (at + 64 * presentOf (now slots) first count ≤ length (now instances)) ⌝ }
+    requires { ⌜ ((i : ℕ) → i < count → (fieldAt 8 (now slots) ((first + i) * 56) 0 ≡ 0 → ⊥) → Writable (now blases) (now slots) ((first + i) * 56)) ⌝ }
+    ensures { λ r. ⌜ r ≡ at + 64 * presentOf (now (slots .entry)) first count ⌝ }
+    ensures { λ _. ⌜ now (instances .exit) ≡ sets (now (instances .entry)) at (slotsBytes (now (blases .entry)) (now (slots .entry)) first count) ⌝ }
+{
+    let mut end = at;
+    let mut i: usize = 0;
+    while i < count {
+        end = put_slot(blases, slots, (first + i) * 56, instances, end);
+        i += 1;
+    }
+    end
+}
+
+fn presence(slots: &[u8], at: usize) -> usize
+    requires { ⌜ at + 56 ≤ length (now slots) ⌝ }
+    ensures { λ r. ⌜ (r ≡ cond (presentAt (now (slots .entry)) at) 1 0) × (r ≤ 1) ⌝ }
+{
+    if u8_at(slots, at) == 0 { 0 } else { 1 }
+}
+
+// How many of count slots from slot first on are present.
+pub fn present_of(slots: &[u8], first: usize, count: usize) -> usize
+    requires { ⌜ (first + count) * 56 ≤ length (now slots) ⌝ }
+    ensures { λ r. ⌜ (r ≡ presentOf (now (slots .entry)) first count) × (r ≤ count) ⌝ }
+{
+    let mut n: usize = 0;
+    let mut i: usize = 0;
+    while i < count {
+        n = n + presence(slots, (first + i) * 56);
+        i += 1;
+    }
+    n
+}

@@ -1,6 +1,5 @@
 -- Laws of mentions: what is not refused is in its table; the first that refuses decides.
 use mathlib.Core.Path.{_≡_, refl, sym, ap, _∙_}
-use mathlib.Core.Logic.{_⊎_, inl, inr}
 use mathlib.Core.Bool.{Bool, true, false}
 use mathlib.Core.List.{List}
 use Prim.Native.Nat.{ℕ, zero, suc, _/_, _<_}
@@ -26,3 +25,7 @@ else-first m n k e = sym (ap (λ (x : ℕ). x else n) e)
 
 pub else-rest : (m n : ℕ) → m ≡ 0 → n ≡ (m else n)
 else-rest m n e = sym (ap (λ (x : ℕ). x else n) e)
+
+pub else-zero : (m n : ℕ) → (m else n) ≡ 0 → (m ≡ 0) × (n ≡ 0)
+else-zero zero n e = (refl, e)
+else-zero (suc m) n e = absurd (omega arith)

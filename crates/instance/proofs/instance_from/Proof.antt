@@ -3,7 +3,7 @@ use borrow.Author.Needs.{needs}
 use native.Mathlib.Omega.{arith}
 use mathlib.Core.Path.{_≡_, refl, sym, ap, _∙_}
 use mathlib.Core.List.{List, map}
-use Prim.Native.Nat.{ℕ, _+_, _*_, _-_, _≤_, _<_}
+use Prim.Native.Nat.{ℕ, _+_, _-_, _≤_}
 use lib.ListN.{length, take, length-set, length-map}
 use lib.Ieee.{Float, binary32, ofBits}
 use Rattle.ray_tracing.specs.Instances.{nanOf, wordsAt, instanceFrom}
@@ -11,12 +11,6 @@ use Rattle.ray_tracing.proofs.Instances.{length-wordsAt, map-words}
 use Rattle.instance.proofs.Laws.{fill, filled}
 use Rattle.instance.proofs.instance_from.Statement.{statement}
 use Rattle.instance.proofs.instance_from.Tie as tie
-use Rattle.instance.proofs.instance_from.Reads as reads
-use Rattle.instance.proofs.instance_from.Lts as lts
-use Rattle.instance.proofs.number_of_bits.Reads as number-of-bits-reads
-use Rattle.wire.proofs.u16_at.Reads as u16-at-reads
-use Rattle.wire.proofs.u32_at.Reads as u32-at-reads
-use Rattle.wire.proofs.u8_at.Reads as u8-at-reads
 
 -- what the arrays hold in the end
 abbrev values : List ℕ → ℕ → List Float
@@ -32,55 +26,9 @@ Inv-loop s at transform₀ nan-bits₀ k₀ transform nan-bits k =
 abbrev μ-loop : tie.MeasureT-loop
 μ-loop s at transform₀ nan-bits₀ k₀ transform nan-bits k = 12 - k
 
--- src/lib.rt:84:5
 loop-holds : tie.Need-loop-holds Inv-loop μ-loop
 loop-holds c = (omega arith, refl, refl, refl, refl)
 
--- src/lib.rt:85:42
-add-u32-at : tie.Need-add-u32-at Inv-loop μ-loop
-add-u32-at c = search needs
-
--- src/lib.rt:85:51
-mul-u32-at : tie.Need-mul-u32-at Inv-loop μ-loop
-mul-u32-at c = search needs
-
--- src/lib.rt:85:42
-add-u32-at-2 : tie.Need-add-u32-at-2 Inv-loop μ-loop
-add-u32-at-2 c = search needs
-
--- src/lib.rt:85:32
-u32-at-requires : tie.Need-u32-at-requires Inv-loop μ-loop
-u32-at-requires c κs = search needs
-
--- src/lib.rt:85:13
-number-of-bits-requires : tie.Need-number-of-bits-requires Inv-loop μ-loop
-number-of-bits-requires c κs = search needs
-
--- src/lib.rt:86:9
-mul-transform : tie.Need-mul-transform Inv-loop μ-loop
-mul-transform c = search needs
-
--- src/lib.rt:86:9
-array-write-transform : tie.Need-array-write-transform Inv-loop μ-loop
-array-write-transform c = search needs
-
--- src/lib.rt:87:9
-mul-nan-bits : tie.Need-mul-nan-bits Inv-loop μ-loop
-mul-nan-bits c = search needs
-
--- src/lib.rt:87:9
-array-write-nan-bits : tie.Need-array-write-nan-bits Inv-loop μ-loop
-array-write-nan-bits c = search needs
-
--- src/lib.rt:88:9
-add-k : tie.Need-add-k Inv-loop μ-loop
-add-k c = search needs
-
--- src/lib.rt:84:5
-loop-less : tie.Need-loop-less Inv-loop μ-loop
-loop-less c = search needs
-
--- src/lib.rt:84:5
 loop-again : tie.Need-loop-again Inv-loop μ-loop
 loop-again c =
     let at-loop = c .before .before .before in
@@ -100,27 +48,6 @@ loop-again c =
           (c .number-of-bits .ensures .1 ∙ ap nanOf word ∙ sym (map-words nanOf 12 s (at + 7) k (omega arith))),
     )
 
--- src/lib.rt:93:32
-add-u32-at-3 : tie.Need-add-u32-at-3 Inv-loop μ-loop
-add-u32-at-3 c = search needs
-
--- src/lib.rt:93:22
-u32-at-requires-2 : tie.Need-u32-at-requires-2 Inv-loop μ-loop
-u32-at-requires-2 c κs = search needs
-
--- src/lib.rt:94:24
-add-u8-at : tie.Need-add-u8-at Inv-loop μ-loop
-add-u8-at c = search needs
-
--- src/lib.rt:94:15
-u8-at-requires : tie.Need-u8-at-requires Inv-loop μ-loop
-u8-at-requires c κs = search needs
-
--- src/lib.rt:95:22
-u16-at-requires : tie.Need-u16-at-requires Inv-loop μ-loop
-u16-at-requires c κs = search needs
-
--- src/lib.rt:77:1
 returns : tie.Need-returns Inv-loop μ-loop
 unfolding instanceFrom
 returns c =
@@ -146,21 +73,21 @@ instance-from-spec =
     Inv-loop
     μ-loop
     loop-holds
-    add-u32-at
-    mul-u32-at
-    add-u32-at-2
-    u32-at-requires
-    number-of-bits-requires
-    mul-transform
-    array-write-transform
-    mul-nan-bits
-    array-write-nan-bits
-    add-k
-    loop-less
+    (λ c. search needs)
+    (λ c. search needs)
+    (λ c. search needs)
+    (λ c κs. search needs)
+    (λ c κs. search needs)
+    (λ c. search needs)
+    (λ c. search needs)
+    (λ c. search needs)
+    (λ c. search needs)
+    (λ c. search needs)
+    (λ c. search needs)
     loop-again
-    add-u32-at-3
-    u32-at-requires-2
-    add-u8-at
-    u8-at-requires
-    u16-at-requires
+    (λ c. search needs)
+    (λ c κs. search needs)
+    (λ c. search needs)
+    (λ c κs. search needs)
+    (λ c κs. search needs)
     returns)

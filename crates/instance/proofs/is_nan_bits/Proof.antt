@@ -4,10 +4,7 @@ use lib.Ieee.{binary32}
 use lib.Ieee.Bits.{nanBits-above}
 use Rattle.instance.proofs.is_nan_bits.Statement.{statement}
 use Rattle.instance.proofs.is_nan_bits.Tie as tie
-use Rattle.instance.proofs.is_nan_bits.Reads as reads
-use Rattle.instance.proofs.is_nan_bits.Lts as lts
 
--- src/lib.rt:16:1
 returns : tie.Need-returns
 returns c = sym (nanBits-above binary32 (c .args .bits))
 

@@ -1,6 +1,5 @@
 -- `instance::put_instance` meets its contract: four writes end to end are one.
 use borrow.Author.Needs.{needs}
-use native.Mathlib.Omega.{arith}
 use mathlib.Core.Path.{_≡_}
 use Prim.Native.Nat.{_+_, _*_, _^_}
 use lib.ListN.{length}
@@ -11,55 +10,6 @@ use Rattle.ray_tracing.proofs.Instances.{transform-length}
 use Rattle.instance.proofs.Laws.{sets-four}
 use Rattle.instance.proofs.put_instance.Statement.{statement}
 use Rattle.instance.proofs.put_instance.Tie as tie
-use Rattle.instance.proofs.put_instance.Reads as reads
-use Rattle.instance.proofs.put_instance.Lts as lts
-use Rattle.instance.proofs.put_transform.Reads as put-transform-reads
-use Rattle.wire.proofs.put_u32.Reads as put-u32-reads
-use Rattle.wire.proofs.put_u64.Reads as put-u64-reads
-
--- src/lib.rt:116:5
-put-transform-requires : tie.Need-put-transform-requires
-put-transform-requires c κs = search needs
-
--- src/lib.rt:119:9
-add-put-u32 : tie.Need-add-put-u32
-add-put-u32 c = search needs
-
--- src/lib.rt:120:44
-cast-put-u32 : tie.Need-cast-put-u32
-cast-put-u32 c = search needs
-
--- src/lib.rt:120:32
-mul-put-u32 : tie.Need-mul-put-u32
-mul-put-u32 c = search needs
-
--- src/lib.rt:120:9
-add-put-u32-2 : tie.Need-add-put-u32-2
-add-put-u32-2 c = search needs
-
--- src/lib.rt:117:5
-put-u32-requires : tie.Need-put-u32-requires
-put-u32-requires c κs = search needs
-
--- src/lib.rt:122:18
-add-put-u32-3 : tie.Need-add-put-u32-3
-add-put-u32-3 c = search needs
-
--- src/lib.rt:122:5
-put-u32-requires-2 : tie.Need-put-u32-requires-2
-put-u32-requires-2 c κs = search needs
-
--- src/lib.rt:123:18
-add-put-u64 : tie.Need-add-put-u64
-add-put-u64 c = search needs
-
--- src/lib.rt:123:5
-put-u64-requires : tie.Need-put-u64-requires
-put-u64-requires c κs = search needs
-
--- src/lib.rt:110:1
-same-length : tie.Need-same-length
-same-length c = search needs
 
 -- an array field's length, from what the entry knows: stated at `Start`, since `search` enters at most 128 records
 lengths : (s : tie.Start) → (length (s .args .instance .transform) ≡ 12) × (length (s .args .instance .«nan_bits») ≡ 12)
@@ -91,15 +41,15 @@ pub put-instance-spec : {M : Type 1} → statement M
 put-instance-spec =
     tie.close
     (tie.spec
-    put-transform-requires
-    add-put-u32
-    cast-put-u32
-    mul-put-u32
-    add-put-u32-2
-    put-u32-requires
-    add-put-u32-3
-    put-u32-requires-2
-    add-put-u64
-    put-u64-requires
-    same-length
+    (λ c κs. search needs)
+    (λ c. search needs)
+    (λ c. search needs)
+    (λ c. search needs)
+    (λ c. search needs)
+    (λ c κs. search needs)
+    (λ c. search needs)
+    (λ c κs. search needs)
+    (λ c. search needs)
+    (λ c κs. search needs)
+    (λ c. search needs)
     returns)

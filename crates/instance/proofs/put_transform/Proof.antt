@@ -3,7 +3,7 @@ use borrow.Author.Needs.{needs}
 use native.Mathlib.Omega.{arith}
 use mathlib.Core.Path.{_≡_, refl, sym, ap, _∙_}
 use mathlib.Core.List.{List}
-use Prim.Native.Nat.{ℕ, _+_, _*_, _-_, _≤_, _<_}
+use Prim.Native.Nat.{ℕ, _-_, _≤_}
 use lib.ListN.{length, take}
 use lib.Seq.{sets, take-all}
 use Rattle.ray_tracing.specs.Instances.{words, patterns}
@@ -11,10 +11,6 @@ use Rattle.ray_tracing.proofs.Instances.{length-patterns, getD-patterns}
 use Rattle.instance.proofs.Laws.{put-more}
 use Rattle.instance.proofs.put_transform.Statement.{statement}
 use Rattle.instance.proofs.put_transform.Tie as tie
-use Rattle.instance.proofs.put_transform.Reads as reads
-use Rattle.instance.proofs.put_transform.Lts as lts
-use Rattle.instance.proofs.bits_of_number.Reads as bits-of-number-reads
-use Rattle.wire.proofs.put_u32.Reads as put-u32-reads
 
 abbrev Inv-loop : tie.InvT-loop
 Inv-loop out₀ at transform nan-bits k₀ out k =
@@ -23,52 +19,10 @@ Inv-loop out₀ at transform nan-bits k₀ out k =
 abbrev μ-loop : tie.MeasureT-loop
 μ-loop out₀ at transform nan-bits k₀ out k = 12 - k
 
--- src/lib.rt:104:5
 loop-holds : tie.Need-loop-holds Inv-loop μ-loop
 unfolding words
 loop-holds c = (omega arith, refl, refl)
 
--- src/lib.rt:105:27
-mul-put-u32 : tie.Need-mul-put-u32 Inv-loop μ-loop
-mul-put-u32 c = search needs
-
--- src/lib.rt:105:22
-add-put-u32 : tie.Need-add-put-u32 Inv-loop μ-loop
-add-put-u32 c = search needs
-
--- src/lib.rt:105:49
-mul-bits-of-number : tie.Need-mul-bits-of-number Inv-loop μ-loop
-mul-bits-of-number c = search needs
-
--- src/lib.rt:105:49
-array-read-bits-of-number : tie.Need-array-read-bits-of-number Inv-loop μ-loop
-array-read-bits-of-number c = search needs
-
--- src/lib.rt:105:63
-mul-bits-of-number-2 : tie.Need-mul-bits-of-number-2 Inv-loop μ-loop
-mul-bits-of-number-2 c = search needs
-
--- src/lib.rt:105:63
-array-read-bits-of-number-2 : tie.Need-array-read-bits-of-number-2 Inv-loop μ-loop
-array-read-bits-of-number-2 c = search needs
-
--- src/lib.rt:105:34
-bits-of-number-requires : tie.Need-bits-of-number-requires Inv-loop μ-loop
-bits-of-number-requires c κs = search needs
-
--- src/lib.rt:105:9
-put-u32-requires : tie.Need-put-u32-requires Inv-loop μ-loop
-put-u32-requires c κs = search needs
-
--- src/lib.rt:106:9
-add-k : tie.Need-add-k Inv-loop μ-loop
-add-k c = search needs
-
--- src/lib.rt:104:5
-loop-less : tie.Need-loop-less Inv-loop μ-loop
-loop-less c = search needs
-
--- src/lib.rt:104:5
 loop-again : tie.Need-loop-again Inv-loop μ-loop
 loop-again c =
     let at-loop = c .before .before .before .before .before .before in
@@ -87,11 +41,6 @@ loop-again c =
           (c .before .before .put-u32 .ensures),
     )
 
--- src/lib.rt:99:1
-same-length : tie.Need-same-length Inv-loop μ-loop
-same-length c = search needs
-
--- src/lib.rt:99:1
 returns : tie.Need-returns Inv-loop μ-loop
 returns c =
     let at-loop = c .before in
@@ -109,16 +58,16 @@ put-transform-spec =
     Inv-loop
     μ-loop
     loop-holds
-    mul-put-u32
-    add-put-u32
-    mul-bits-of-number
-    array-read-bits-of-number
-    mul-bits-of-number-2
-    array-read-bits-of-number-2
-    bits-of-number-requires
-    put-u32-requires
-    add-k
-    loop-less
+    (λ c. search needs)
+    (λ c. search needs)
+    (λ c. search needs)
+    (λ c. search needs)
+    (λ c. search needs)
+    (λ c. search needs)
+    (λ c κs. search needs)
+    (λ c κs. search needs)
+    (λ c. search needs)
+    (λ c. search needs)
     loop-again
-    same-length
+    (λ c. search needs)
     returns)
