@@ -22,7 +22,7 @@ use Rattle.ray_tracing.specs.Guard.{refuse}
 use Rattle.ray_tracing.specs.Records.{fieldAt}
 use Rattle.ray_tracing.specs.Causes.{Cause, bare, buildCause}
 use Rattle.ray_tracing.specs.Mentions.{_else_, blasMention, tlasMention, blasOf, tlasOf}
-use Rattle.ray_tracing.specs.Instances.{words, instanceBytes, returnsVertices, instanceRule, namedInstanceRule, instanceAt, addressFor, slotMention, slotRule, instanceCause, Appending, inUse, refused, namedTlasRule, roomRule, outcome, appendRule, bytesAfter, appendBytes}
+use Rattle.ray_tracing.specs.Instances.{words, instanceBytes, returnsVertices, instanceRule, namedInstanceRule, addressFor, slotMention, slotRule, instanceCause, Appending, inUse, refused, namedTlasRule, roomRule, outcome, appendRule, bytesAfter, appendBytes}
 use Rattle.ray_tracing.proofs.Causes.{positive}
 use Rattle.ray_tracing.proofs.Mentions.{mention-inside, else-zero}
 use Rattle.instance.specs.Writable.{Writable}
@@ -103,19 +103,18 @@ module _ (blases s : List ℕ) (at : ℕ) where
     slot-absent tlas = rw (eq-eqb (fieldAt 8 s at 0) 0 absent)
 
   module _ (present : fieldAt 8 s at 0 ≡ 0 → ⊥) where
-    pub mention-present : blasMention blases (instanceAt s at .blas .0) ≡ slotMention blases s at
+    pub mention-present : blasMention blases (fieldAt 8 s at 1) ≡ slotMention blases s at
     mention-present = rw (ne-eqb (fieldAt 8 s at 0) 0 present)
 
-    pub slot-present : (tlas : Tlas) → instanceRule tlas (blasOf blases (instanceAt s at .blas .0)) (instanceAt s at .«custom_data») ≡ slotRule tlas blases s at
+    pub slot-present : (tlas : Tlas) → instanceRule tlas (blasOf blases (fieldAt 8 s at 1)) (fieldAt 8 s at 2) ≡ slotRule tlas blases s at
     slot-present tlas = rw (ne-eqb (fieldAt 8 s at 0) 0 present)
 
     -- what was judged may be written
     pub writable : (tlas : Tlas) → slotMention blases s at ≡ 0 → slotRule tlas blases s at ≡ 0 → Writable blases s at
-    writable tlas m r =
-        record {
-          inside = mention-inside 28 blases (instanceAt s at .blas .0) (mention-present ∙ m);
-          narrow = rule-narrow tlas (blasOf blases (instanceAt s at .blas .0)) (instanceAt s at .«custom_data») (slot-present tlas ∙ r);
-        }
+    writable tlas m r = record {
+      inside = mention-inside 28 blases (fieldAt 8 s at 1) (mention-present ∙ m);
+      narrow = rule-narrow tlas (blasOf blases (fieldAt 8 s at 1)) (fieldAt 8 s at 2) (slot-present tlas ∙ r);
+    }
 
 -- ---- appending one instance
 

@@ -3,8 +3,8 @@ use Prim.Native.Nat.{ℕ, _/_, _^_, _<_}
 use mathlib.Core.List.{List}
 use lib.ListN.{length}
 use Rattle.ray_tracing.specs.Layout.{size}
-use Rattle.ray_tracing.specs.Instances.{instanceAt}
+use Rattle.ray_tracing.specs.Records.{fieldAt}
 
 pub record Writable (blases s : List ℕ) (at : ℕ) : Type 0 where
-  pub inside : instanceAt s at .blas .0 < length blases / size 2
-  pub narrow : instanceAt s at .«custom_data» < 2 ^ 24
+  pub inside : fieldAt 8 s at 1 < length blases / size 2
+  pub narrow : fieldAt 8 s at 2 < 2 ^ 24

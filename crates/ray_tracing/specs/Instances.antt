@@ -169,16 +169,13 @@ abbrev pub namedInstanceRule : Tlas → List ℕ → TlasInstance → ℕ
 namedInstanceRule tlas blases i =
     blasMention blases (i .blas .0) else instanceRule tlas (blasOf blases (i .blas .0)) (i .«custom_data»)
 
--- of a slot: an absent one is refused for nothing
+-- of the slot at a place; an absent one is refused for nothing
 
 abbrev pub slotMention : List ℕ → List ℕ → ℕ → ℕ
-slotMention blases s at = cond (presentAt s at) (blasMention blases (instanceAt s at .blas .0)) 0
+slotMention blases s at = cond (presentAt s at) (blasMention blases (fieldAt 8 s at 1)) 0
 
 abbrev pub slotRule : Tlas → List ℕ → List ℕ → ℕ → ℕ
-slotRule tlas blases s at =
-    cond (presentAt s at)
-    (instanceRule tlas (blasOf blases (instanceAt s at .blas .0)) (instanceAt s at .«custom_data»))
-    0
+slotRule tlas blases s at = cond (presentAt s at) (instanceRule tlas (blasOf blases (fieldAt 8 s at 1)) (fieldAt 8 s at 2)) 0
 
 -- the cause of what the code finds
 abbrev pub instanceCause : CheckedInstance → Cause

@@ -9,7 +9,7 @@ use lib.Seq.{sets}
 use Rattle.ray_tracing.specs.declared.TlasInstance.{TlasInstance}
 use Rattle.ray_tracing.specs.Records.{fieldAt}
 use Rattle.ray_tracing.specs.Instances.{instanceBytes, addressFor}
-use Rattle.ray_tracing.proofs.Instances.{slot-none, slot-some, slot-some-length}
+use Rattle.ray_tracing.proofs.Instances.{slot-blas, slot-custom, slot-none, slot-some, slot-some-length}
 use borrow.Author.Needs.{needs}
 use Rattle.instance.proofs.put_slot.Statement.{statement}
 use Rattle.instance.proofs.put_slot.Tie as tie
@@ -23,18 +23,19 @@ returns c =
 address-of-requires : tie.Need-address-of-requires
 address-of-requires c κs =
     let start = c .before .before .before .before .before .before in
-    let bl = start .args .blases .now in
+    let id = ap (λ (t : TlasInstance). t .blas .0) (c .instance-from .ensures) ∙ slot-blas (start .args .slots .now) (start .args .at) in
     let w = start .pre .1 (λ e. c .before .if1 .left (c .before .before .u8-at .ensures ∙ e)) in
-    subst (λ (t : TlasInstance). t .blas .0 < length bl / 28) (sym (c .instance-from .ensures)) (w .inside)
+    subst (λ (n : ℕ). n < length (start .args .blases .now) / 28) (sym id) (w .inside)
 
 put-instance-requires : tie.Need-put-instance-requires
 put-instance-requires c κs =
     let start = c .before .before .before .before .before .before .before .before in
     let a = start .args in
     let present : fieldAt 8 (a .slots .now) (a .at) 0 ≡ 0 → ⊥ = λ e. c .before .before .before .if1 .left (c .before .before .before .before .u8-at .ensures ∙ e) in
+    let custom = ap (λ (t : TlasInstance). t .«custom_data») (c .before .before .instance-from .ensures) ∙ slot-custom (a .slots .now) (a .at) in
     let long = slot-some-length (a .slots .now) (a .at) (a .blases .now) present in (
       omega (arith, start .pre .0 .1),
-      subst (λ (t : TlasInstance). t .«custom_data» < 2 ^ 24) (sym (c .before .before .instance-from .ensures)) (start .pre .1 present .narrow),
+      subst (λ (n : ℕ). n < 2 ^ 24) (sym custom) (start .pre .1 present .narrow),
     )
 
 returns-2 : tie.Need-returns-2

@@ -1,7 +1,6 @@
 -- `instance::slot_mention` meets its contract: an absent slot mentions nothing, a present one its Blas.
 use mathlib.Core.Path.{sym, ap, _∙_}
 use Rattle.ray_tracing.specs.Mentions.{blasMention}
-use Rattle.ray_tracing.proofs.Instances.{slot-blas}
 use Rattle.instance.proofs.Laws.{mention-absent, mention-present}
 use borrow.Author.Needs.{needs}
 use Rattle.instance.proofs.slot_mention.Statement.{statement}
@@ -16,7 +15,7 @@ returns-2 c =
     let bl = a .blases .now in
     let s = a .slots .now in
     c .blas-mention .ensures
-    ∙ ap (blasMention bl) (c .before .u16-at .ensures ∙ sym (slot-blas s (a .at)))
+    ∙ ap (blasMention bl) (c .before .u16-at .ensures)
     ∙ mention-present bl s (a .at) (λ e. c .before .before .if1 .left (c .before .before .before .u8-at .ensures ∙ e))
 
 pub slot-mention-spec : {M : Type 1} → statement M
