@@ -15,3 +15,4 @@ pub mod Judging
 pub mod Sound
 pub mod Cuts
 pub mod Inside
+pub mod Accepted

@@ -1,7 +1,6 @@
 pub mod Guard
 pub mod Layout
 pub mod Reading
-pub mod Writing
 pub mod Records
 pub mod Causes
 pub mod Checks
@@ -13,3 +12,4 @@ pub mod Plan
 pub mod Submission
 pub mod History
 pub mod Claim
+pub mod Writing
