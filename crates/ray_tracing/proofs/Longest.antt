@@ -1,42 +1,23 @@
 -- The answer depends on the first longest + 1 bytes only: no section has more than its most records, so a list that is longer is judged
 -- within those bytes, and refused at the latest for the bytes left over.
-use Prim.Native.Nat.{ℕ, zero, suc, _+_, _-_, _*_, _≤_, _<_}
+use Prim.Native.Nat.{ℕ, zero, suc, _+_, _*_, _≤_, _<_}
 use native.Mathlib.Nat.{add-zero, zero-add, mul-le-mul-right}
 use native.Mathlib.Numerals.{add-one}
 use native.Mathlib.Omega.{arith}
 use mathlib.Core.Bool.{Bool, true, false, not}
 use mathlib.Core.Path.{_≡_, refl, sym, ap, _∙_}
-use mathlib.Core.List.{List, [], _∷_}
+use mathlib.Core.List.{List, []}
 use lib.Dec.{leb, ltb, eqb}
-use lib.ListN.{length, take, drop}
+use lib.ListN.{length, take}
 use lib.Seq.{take-all, length-take-le}
 use borrow.Author.Tests.{lt-ltb, le-ltb, leb-true, leb-false}
 use Rattle.wire.specs.Wire.{leAt}
 use Rattle.ray_tracing.specs.declared.Sheet.{Sheet}
 use Rattle.ray_tracing.specs.Layout.{layout, size}
-use Rattle.ray_tracing.specs.Reading.{
-  Judged,
-  fine,
-  refused,
-  on,
-  _or_,
-  judgeRecords,
-  begin,
-  past,
-  from,
-  judgeSection,
-  judgeSections,
-  judgeSheet,
-  sheetOf,
-  accepted,
-  answer,
-  readSheet,
-  sectionsUpTo,
-  longest,
-}
+use Rattle.ray_tracing.specs.Reading.{Judged, fine, refused, on, _or_, judgeRecords, begin, past, from, judgeSection, judgeSections, judgeSheet, sheetOf, accepted, answer, readSheet, sectionsUpTo, longest}
 use Rattle.ray_tracing.proofs.Reading.{refused-not-fine, section-most, past-more, from-more}
 use Rattle.ray_tracing.proofs.Sheets.{accepted-judged}
-use Rattle.ray_tracing.proofs.Windows.{Window, moved, moved-none, window-part, le-window, records-window, section-window}
+use Rattle.ray_tracing.proofs.Windows.{Window, moved-none, window-part, le-window, records-window, section-window}
 
 pub longest-is : longest ≡ 56415
 unfolding sectionsUpTo
@@ -146,8 +127,8 @@ module _ {t s : List ℕ} (w : Window 0 t s) (h : longest < length t) where
   unfolding readSheet
   longer = alike-answer (sheetOf s) (sheetOf t) sheet-alike
 
-pub prefix : (s : List ℕ) → readSheet (take (longest + 1) s) ≡ readSheet s
-prefix s = go (leb (length s) (longest + 1)) refl
+pub prefix-decides : (s : List ℕ) → readSheet (take (longest + 1) s) ≡ readSheet s
+prefix-decides s = go (leb (length s) (longest + 1)) refl
   where
     go : (b : Bool) → leb (length s) (longest + 1) ≡ b → readSheet (take (longest + 1) s) ≡ readSheet s
     go true e = ap readSheet (take-all (longest + 1) s (leb-true (length s) (longest + 1) e))

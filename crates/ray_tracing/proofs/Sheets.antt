@@ -4,61 +4,21 @@ use Prim.Native.Nat.{ℕ, zero, suc, _+_, _-_, _*_, _/_, _%_, _≤_, _<_}
 use native.Mathlib.Nat.{add-zero, mul-div-cancel, mul-mod-left}
 use native.Mathlib.Numerals.{add-one}
 use native.Mathlib.Omega.{arith}
-use mathlib.Core.Bool.{Bool, true, false, not, _||_, cond, true≢false, false≢true}
-use mathlib.Core.Path.{_≡_, refl, sym, ap, _∙_}
-use mathlib.Core.List.{List, [], _∷_}
+use mathlib.Core.Bool.{Bool, true, false, not, _||_, true≢false, false≢true}
+use mathlib.Core.Path.{_≡_, refl, sym, _∙_}
+use mathlib.Core.List.{List, []}
 use lib.Dec.{eqb, ltb}
 use lib.ListN.{length, take, drop, length-drop}
 use lib.Seq.{length-take-le}
 use borrow.Author.Tests.{le-ltb, ltb-true, ltb-false, eq-eqb, eqb-true, not-false}
 use Rattle.wire.specs.Wire.{leAt}
-use Rattle.ray_tracing.specs.declared.Section.{Section}
 use Rattle.ray_tracing.specs.declared.Sheet.{Sheet}
 use Rattle.ray_tracing.specs.Layout.{Seen, Field, Layout, always, positive, u32, layout, size, total}
-use Rattle.ray_tracing.specs.Reading.{
-  Judged,
-  fine,
-  refused,
-  on,
-  _or_,
-  judgeField,
-  judgeFields,
-  judgeRecords,
-  begin,
-  judgeTable,
-  addsUp,
-  past,
-  from,
-  judgeSection,
-  judgeSections,
-  judgeSheet,
-  sectionOf,
-  sheetOf,
-  accepted,
-  rejected,
-  Reading,
-  answer,
-  readSheet,
-  byRecord,
-  judgeLent,
-}
+use Rattle.ray_tracing.specs.Reading.{Judged, fine, refused, on, judgeField, judgeFields, judgeRecords, begin, judgeTable, addsUp, past, from, judgeSection, judgeSections, judgeSheet, sectionOf, sheetOf, accepted, answer, readSheet, byRecord, judgeLent}
 use Rattle.ray_tracing.specs.Writing.{table}
 use Rattle.ray_tracing.proofs.Each.{each, size-positive}
-use Rattle.ray_tracing.proofs.Reading.{
-  or-fine,
-  on-fine,
-  refused-not-fine,
-  section-count,
-  section-most,
-  section-adds-up,
-  section-table,
-  section-whole,
-  past-more,
-  from-more,
-  section-fine,
-  sections-more,
-}
-use Rattle.ray_tracing.proofs.Windows.{Window, moved, window-part, table-window}
+use Rattle.ray_tracing.proofs.Reading.{or-fine, on-fine, refused-not-fine, section-most, section-adds-up, section-table, section-whole, past-more, from-more, sections-more}
+use Rattle.ray_tracing.proofs.Windows.{moved, window-part, table-window}
 
 -- ---- a lent table
 

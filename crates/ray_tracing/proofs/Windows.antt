@@ -12,25 +12,8 @@ use lib.Seq.{length-take-le, getD-take, getD-drop, ext-getD}
 use borrow.Author.Tests.{le-ltb, ltb-false, eqb-true}
 use Rattle.wire.specs.Wire.{leAt}
 use Rattle.wire.proofs.Laws.{le-cong}
-use Rattle.ray_tracing.specs.Layout.{Seen, Field, fits, layout, size, total}
-use Rattle.ray_tracing.specs.Reading.{
-  Judged,
-  fine,
-  refused,
-  on,
-  _or_,
-  judgeField,
-  judgeFields,
-  judgeRecords,
-  begin,
-  ofBoxes,
-  geometryCount,
-  judgeDrawn,
-  judgeTable,
-  sumOfCounts,
-  addsUp,
-  judgeSection,
-}
+use Rattle.ray_tracing.specs.Layout.{Seen, Field, layout, size, total}
+use Rattle.ray_tracing.specs.Reading.{Judged, fine, refused, on, _or_, judgeFields, judgeRecords, begin, ofBoxes, geometryCount, judgeDrawn, judgeTable, sumOfCounts, addsUp, judgeSection}
 
 -- t is a part of s, from a on
 pub record Window (a : ℕ) (t s : List ℕ) : Type 0 where

@@ -1,40 +1,19 @@
 -- Tables that draw no refusal when lent, written as a sheet, are read, and are the tables of that sheet.
-use Prim.Native.Nat.{ℕ, zero, suc, _+_, _-_, _*_, _/_, _%_, _^_, _≤_, _<_}
-use native.Mathlib.Nat.{add-zero, add-assoc, div-add-mod'}
+use Prim.Native.Nat.{ℕ, zero, suc, _+_, _-_, _*_, _^_, _≤_, _<_}
+use native.Mathlib.Nat.{add-zero, div-add-mod'}
 use native.Mathlib.Numerals.{add-one}
 use native.Mathlib.Omega.{arith}
-use mathlib.Core.Bool.{Bool, true, false, not}
+use mathlib.Core.Bool.{true, false}
 use mathlib.Core.Path.{_≡_, refl, sym, ap, _∙_}
-use mathlib.Core.List.{List, [], _∷_, _++_, append-assoc}
-use lib.Dec.{eqb, ltb, lit<}
-use lib.ListN.{length, getD, take, drop, length-append, length-drop}
+use mathlib.Core.List.{List, [], _++_, append-assoc}
+use lib.Dec.{ltb, lit<}
+use lib.ListN.{length, drop, length-append, length-drop}
 use lib.Seq.{drop-drop, drop-at, take-append-seam}
-use borrow.Author.Tests.{le-ltb, lt-ltb, leb-true, ltb-true}
+use borrow.Author.Tests.{le-ltb, lt-ltb, ltb-true}
 use Rattle.wire.specs.Wire.{leAt, leBytes}
 use Rattle.wire.proofs.Laws.{le-drop, le-of-bytes, length-leBytes}
-use Rattle.ray_tracing.specs.declared.Section.{Section}
-use Rattle.ray_tracing.specs.declared.Sheet.{Sheet}
 use Rattle.ray_tracing.specs.Layout.{layout, size}
-use Rattle.ray_tracing.specs.Reading.{
-  fine,
-  refused,
-  on,
-  _or_,
-  judgeFields,
-  judgeRecords,
-  begin,
-  past,
-  from,
-  judgeSection,
-  judgeSections,
-  judgeSheet,
-  sectionOf,
-  sheetOf,
-  accepted,
-  answer,
-  readSheet,
-  judgeLent,
-}
+use Rattle.ray_tracing.specs.Reading.{fine, judgeFields, judgeRecords, begin, past, from, judgeSection, judgeSections, judgeSheet, sectionOf, accepted, readSheet, judgeLent}
 use Rattle.ray_tracing.specs.Writing.{table, countOf, sectionBytes, headerBytes, sheetBytes, endOf, sectionWith, sheetWith}
 use Rattle.ray_tracing.proofs.Each.{each}
 use Rattle.ray_tracing.proofs.Reading.{past-more}
