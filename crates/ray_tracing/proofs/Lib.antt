@@ -16,3 +16,4 @@ pub mod Sound
 pub mod Cuts
 pub mod Inside
 pub mod Accepted
+pub mod Builds
