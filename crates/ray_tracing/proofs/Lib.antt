@@ -17,3 +17,4 @@ pub mod Cuts
 pub mod Inside
 pub mod Accepted
 pub mod Builds
+pub mod Allowed
