@@ -18,3 +18,5 @@ pub mod Inside
 pub mod Accepted
 pub mod Builds
 pub mod Allowed
+pub mod Agree
+pub mod Words
