@@ -20,3 +20,4 @@ pub mod Builds
 pub mod Allowed
 pub mod Agree
 pub mod Words
+pub mod Demand3
