@@ -75,9 +75,10 @@ module _ (l : Lent) (h : List Built) (r : Lent) (nb : blasCount r ≡ blasCount 
   in-package : (p : Package) → packageAllowed l p ≡ true → (long p ≡ none) × (mentionPackage r p ≡ none)
   in-package p e =
       let a = and-true (ltb (p .tlas) (tlasCount l)) _ e in
-      let b = and-true (leb (length (p .dependencies)) 512) _ (a .1) in
-      (within-none 512 (length (p .dependencies)) (bare 4) (leb-true (length (p .dependencies)) 512 (b .0)),
-       none-or (outside-none (tlasCount r) (p .tlas) (bare 6) (rw nt (a .0))) (in-ids (p .dependencies) (b .1)))
+      let b = and-true (leb (length (p .dependencies)) 512) _ (a .1) in (
+        within-none 512 (length (p .dependencies)) (bare 4) (leb-true (length (p .dependencies)) 512 (b .0)),
+        none-or (outside-none (tlasCount r) (p .tlas) (bare 6) (rw nt (a .0))) (in-ids (p .dependencies) (b .1)),
+      )
 
   idle-in : (b : ℕ) → compacted r b ≡ none → not (eqb (blas l b .«compacted_state») 3) ≡ true
   idle-in b e = rw (still b) at (not-of (eqb (blas r b .«compacted_state») 3) (cause 41 b 0 0) e)

@@ -21,3 +21,4 @@ pub mod Allowed
 pub mod Agree
 pub mod Words
 pub mod Demand3
+pub mod Decode
