@@ -11,7 +11,7 @@ use borrow.Author.Tests.{ltb-true, leb-true, lt-ltb, le-leb, lt-leb, not-true}
 use Rattle.ray_tracing.specs.Causes.{Cause, cause, bare}
 use Rattle.ray_tracing.specs.Submission.{Lent, Package, Action, build, useTlas, malformed, on, _or_, first, blasCount, tlasCount, blas, mentionBlas, mentionTlas, mentionPackage, tooMany, compacted, before}
 use Rattle.ray_tracing.specs.History.{every, Built, next, listAllowed, packageAllowed, allowed}
-use Rattle.ray_tracing.proofs.Firsts.{or-none, none-or, on-none, inside, within, within-none, isNone}
+use Rattle.ray_tracing.proofs.Firsts.{or-none, none-or, on-none, outside, inside, inside-none, within, within-none, isNone}
 
 and-true : (a b : Bool) → (a && b) ≡ true → (a ≡ true) × (b ≡ true)
 and-true true b e = (refl, e)
@@ -39,8 +39,8 @@ module _ {A : Type 0} where
   first-of f t k [] e = refl
   first-of f t k (x ∷ xs) e = let a = and-true (t x) (every t xs) e in none-or (k x (a .0)) (first-of f t k xs (a .1))
 
-outside-none : (n i : ℕ) (c : Cause) → ltb i n ≡ true → on (leb n i) c ≡ none
-outside-none n i c e = rw (lt-leb n i (ltb-true i n e))
+in-none : (n i : ℕ) → ltb i n ≡ true → outside n i ≡ none
+in-none n i e = inside-none n i (ltb-true i n e)
 
 on-of : (t : Bool) (c : Cause) → not t ≡ true → on t c ≡ none
 on-of t c e = rw (not-true t e)
@@ -55,7 +55,7 @@ module _ (l : Lent) (h : List Built) (r : Lent) (nb : blasCount r ≡ blasCount 
   blas-in b e = lt-ltb b (blasCount l) (rw nb at (inside (blasCount r) b e))
 
   in-blas : (b : ℕ) → ltb b (blasCount l) ≡ true → mentionBlas r b ≡ none
-  in-blas b e = outside-none (blasCount r) b (bare 6) (rw nb e)
+  in-blas b e = in-none (blasCount r) b (rw nb e)
 
   ids-in : (ids : List ℕ) → first (mentionBlas r) ids ≡ none → every (λ i. ltb i (blasCount l)) ids ≡ true
   ids-in ids e = every-of (mentionBlas r) (mentionBlas r) (λ i. ltb i (blasCount l)) (λ b x y. blas-in b x) ids e e
@@ -77,7 +77,7 @@ module _ (l : Lent) (h : List Built) (r : Lent) (nb : blasCount r ≡ blasCount 
       let a = and-true (ltb (p .tlas) (tlasCount l)) _ e in
       let b = and-true (leb (length (p .dependencies)) 512) _ (a .1) in (
         within-none 512 (length (p .dependencies)) (bare 4) (leb-true (length (p .dependencies)) 512 (b .0)),
-        none-or (outside-none (tlasCount r) (p .tlas) (bare 6) (rw nt (a .0))) (in-ids (p .dependencies) (b .1)),
+        none-or (in-none (tlasCount r) (p .tlas) (rw nt (a .0))) (in-ids (p .dependencies) (b .1)),
       )
 
   idle-in : (b : ℕ) → compacted r b ≡ none → not (eqb (blas l b .«compacted_state») 3) ≡ true
@@ -123,5 +123,5 @@ module _ (l : Lent) (h : List Built) (r : Lent) (nb : blasCount r ≡ blasCount 
   before-allowed malformed = refl
   before-allowed (useTlas t) =
       isNone-iff (mentionTlas r t) (ltb t (tlasCount l))
-      (λ e. lt-ltb t (tlasCount l) (rw nt at (inside (tlasCount r) t e))) (λ e. outside-none (tlasCount r) t (bare 6) (rw nt e))
+      (λ e. lt-ltb t (tlasCount l) (rw nt at (inside (tlasCount r) t e))) (λ e. in-none (tlasCount r) t (rw nt e))
   before-allowed (build bs ps) = isNone-iff (before r (build bs ps)) (allowed l h (build bs ps)) (build-in bs ps) (in-build bs ps)

@@ -20,7 +20,7 @@ use Rattle.ray_tracing.specs.Submission.{Lent, Package, Outcome, accepte
 use Rattle.ray_tracing.specs.Submission.{blasCount, tlasCount, blasIn, tlasIn, listIn, blas, tlas, dependenciesOf, mentionTlas, mentionPackage, builtBlas, builtBlases, builtTlas, buildTlas, unnumbered, buildTlases}
 use Rattle.ray_tracing.specs.History.{every, whileHolds, among, firstOf, listed, cellListed}
 use Rattle.ray_tracing.proofs.Tables.{blasWith, tlasWith, built-length, built-other, built-same, raised-length, raised-other, raised-same}
-use Rattle.ray_tracing.proofs.Firsts.{or-none, inside, within, isNone, isNone-on, isNone-first}
+use Rattle.ray_tracing.proofs.Firsts.{or-none, outside, inside, within, isNone, isNone-on, isNone-first}
 use Rattle.ray_tracing.proofs.Sound.{Sound, sound-tlas, tlas-list, other-list, mention-kept}
 
 -- ---- Blases
@@ -29,12 +29,12 @@ abbrev pub blasIf : Bool → ℕ → Blas → Blas
 blasIf true n r = blasWith 0 n r
 blasIf false n r = r
 
-pub blas-built : (n : ℕ) (bs t : List ℕ) (j : ℕ) → n < 2 ^ 64 → first (λ b. on (leb (length t / size 2) b) (bare 6)) bs ≡ none
+pub blas-built : (n : ℕ) (bs t : List ℕ) (j : ℕ) → n < 2 ^ 64 → first (λ b. outside (length t / size 2) b) bs ≡ none
     → blasIn (builtBlases n bs t) j ≡ blasIf (among j bs) n (blasIn t j)
 unfolding builtBlases
 blas-built n [] t j f e = refl
 blas-built n (b ∷ bs) t j f e =
-    let p = or-none (on (leb (length t / size 2) b) (bare 6)) _ e in
+    let p = or-none (outside (length t / size 2) b) _ e in
     blas-built n bs (builtBlas n b t) j f (rw (built-length n b t) (p .1)) ∙ go (eqb j b) refl (inside (length t / size 2) b (p .0))
   where
     twice : (m : Bool) (x : Blas) → blasIf m n (blasWith 0 n x) ≡ blasWith 0 n x

@@ -8,8 +8,9 @@ use mathlib.Core.Option.{Option, none, some}
 use mathlib.Core.List.{List, [], _∷_}
 use lib.Dec.{eqb, leb, ltb}
 use borrow.Author.Tests.{ltb-true, ltb-false, leb-true, leb-false, eqb-true, le-leb, lt-leb, lt-ltb, le-ltb}
-use Rattle.ray_tracing.specs.Causes.{Cause, bare}
-use Rattle.ray_tracing.specs.Submission.{Lent, Answer, accepted, refused, Outcome, _leaving_, left, _then_, later, unless, on, _or_, first}
+use Rattle.ray_tracing.specs.Guard.{refuse}
+use Rattle.ray_tracing.specs.Causes.{Cause}
+use Rattle.ray_tracing.specs.Submission.{Lent, Answer, accepted, refused, Outcome, _leaving_, left, _then_, later, unless, on, _or_, first, mentioned}
 use Rattle.ray_tracing.specs.History.{every, whileHolds, among}
 
 -- ---- causes
@@ -25,9 +26,21 @@ pub on-none : (t : Bool) (c : Cause) → on t c ≡ none → t ≡ false
 on-none false c e = refl
 on-none true c e = let z : _≡_ {A = ℕ} 0 1 = cc in absurd (omega arith)
 
--- 6 is not drawn: the id is inside
-pub inside : (n i : ℕ) → on (leb n i) (bare 6) ≡ none → i < n
-inside n i e = leb-false n i (on-none (leb n i) (bare 6) e)
+-- a mention of an id in a table of n records; where it is not refused, the id is inside
+abbrev pub outside : ℕ → ℕ → Option Cause
+outside n i = mentioned (refuse (leb n i) 6 0)
+
+pub inside : (n i : ℕ) → outside n i ≡ none → i < n
+unfolding refuse
+inside n i e = leb-false n i (go (leb n i) e)
+  where
+    go : (t : Bool) → mentioned (refuse t 6 0) ≡ none → t ≡ false
+    go false e = refl
+    go true e = let z : _≡_ {A = ℕ} 0 1 = cc in absurd (omega arith)
+
+pub inside-none : (n i : ℕ) → i < n → outside n i ≡ none
+unfolding refuse
+inside-none n i h = ap (λ (t : Bool). mentioned (refuse t 6 0)) (lt-leb n i h)
 
 -- 4 is not drawn
 pub within : (most n : ℕ) (c : Cause) → on (ltb most n) c ≡ none → n ≤ most

@@ -19,7 +19,7 @@ use Rattle.ray_tracing.specs.Submission.{Lent, Package, Action, build, u
 use Rattle.ray_tracing.specs.Submission.{blasCount, tlasCount, blasIn, tlasIn, listIn, blas, tlas, dependenciesOf, mentionBlas, mentionTlas, mentionPackage, tooMany, compacted, tableCause}
 use Rattle.ray_tracing.specs.Submission.{judgeBlases, judgeTlases, judgeRoom, judgeList, judgeLists, judge, before, builtBlas, builtBlases, buildBlases, builtTlas, buildTlas, unnumbered, buildTlases, unusable, act, step, run, submission}
 use Rattle.ray_tracing.proofs.Tables.{built-length, raised-length, list-same, list-other}
-use Rattle.ray_tracing.proofs.Firsts.{or-none, none-or, on-none, inside, within, within-none, left-later, left-unless, left-then}
+use Rattle.ray_tracing.proofs.Firsts.{or-none, none-or, on-none, outside, inside, within, within-none, left-later, left-unless, left-then}
 use Rattle.ray_tracing.proofs.Judging.{blases-kept, tlases-kept}
 
 -- ---- `judge l ≡ none` and a counter that fits, by parts
@@ -91,12 +91,12 @@ unfolding builtBlases
 blases-length n [] t = refl
 blases-length n (b ∷ bs) t = blases-length n bs (builtBlas n b t) ∙ built-length n b t
 
-blases-fine : (n : ℕ) (bs t : List ℕ) → n < 2 ^ 64 → first (λ b. on (leb (length t / size 2) b) (bare 6)) bs ≡ none
+blases-fine : (n : ℕ) (bs t : List ℕ) → n < 2 ^ 64 → first (λ b. outside (length t / size 2) b) bs ≡ none
     → BlasesFine t → BlasesFine (builtBlases n bs t)
 unfolding builtBlases
 blases-fine n [] t f o h = h
 blases-fine n (b ∷ bs) t f o h =
-    let p = or-none (on (leb (length t / size 2) b) (bare 6)) _ o in
+    let p = or-none (outside (length t / size 2) b) _ o in
     blases-fine n bs (builtBlas n b t) f (rw (built-length n b t) (p .1)) (blases-kept n b (size 1) t [] f (inside (length t / size 2) b (p .0)) h)
 
 pub sound-blases : (bs : List ℕ) (l : Lent) → first (mentionBlas l) bs ≡ none → Sound l → Sound (buildBlases bs l)
@@ -109,7 +109,7 @@ sound-blases bs l o h =
       cells = h .cells;
       short = h .short;
       lists =
-          λ t k. subst (λ (n : ℕ). first (λ b. on (leb (n / size 2) b) (bare 6)) (dependenciesOf l t) ≡ none)
+          λ t k. subst (λ (n : ℕ). first (λ b. outside (n / size 2) b) (dependenciesOf l t) ≡ none)
           (sym (blases-length (l .counter) bs (l .blases))) (h .lists t k);
     }
 
@@ -160,10 +160,10 @@ mention-same : (l r : Lent) (ps : List Package) → length (r .blases) ≡ lengt
     → first (mentionPackage l) ps ≡ none → first (mentionPackage r) ps ≡ none
 mention-same l r ps e f h =
     subst
-    (λ (b : ℕ). first (λ p. on (leb (length (r .tlases) / size 4) (p .tlas)) (bare 6) or first (λ x. on (leb (b / size 2) x) (bare 6)) (p .dependencies)) ps ≡ none)
+    (λ (b : ℕ). first (λ p. outside (length (r .tlases) / size 4) (p .tlas) or first (λ x. outside (b / size 2) x) (p .dependencies)) ps ≡ none)
     (sym e)
     (subst
-    (λ (t : ℕ). first (λ p. on (leb (t / size 4) (p .tlas)) (bare 6) or first (λ x. on (leb (length (l .blases) / size 2) x) (bare 6)) (p .dependencies)) ps ≡ none)
+    (λ (t : ℕ). first (λ p. outside (t / size 4) (p .tlas) or first (λ x. outside (length (l .blases) / size 2) x) (p .dependencies)) ps ≡ none)
     (sym f) h)
 
 pub mention-built : (bs : List ℕ) (l : Lent) (ps : List Package) → first (mentionPackage l) ps ≡ none → first (mentionPackage (buildBlases bs l)) ps ≡ none

@@ -10,7 +10,7 @@ use Rattle.wire.specs.Wire.{leBytes}
 use Rattle.ray_tracing.specs.declared.Blas.{Blas}
 use Rattle.ray_tracing.specs.declared.Tlas.{Tlas}
 use Rattle.ray_tracing.specs.Layout.{layout, size, placeOf, widthOf}
-use Rattle.ray_tracing.specs.Records.{blasAt, tlasAt}
+use Rattle.ray_tracing.specs.Mentions.{blasMention, tlasMention, blasOf, tlasOf}
 use Rattle.ray_tracing.specs.Reading as reading
 use Rattle.ray_tracing.specs.Causes.{Cause, cause, bare}
 
@@ -56,10 +56,10 @@ abbrev pub tlasCount : Lent → ℕ
 tlasCount l = length (l .tlases) / tlasSize
 
 unfoldable pub blasIn : List ℕ → ℕ → Blas
-blasIn t b = blasAt t (b * blasSize)
+blasIn t b = blasOf t b
 
 unfoldable pub tlasIn : List ℕ → ℕ → Tlas
-tlasIn t i = tlasAt t (i * tlasSize)
+tlasIn t i = tlasOf t i
 
 -- the first cells of the Tlas's room, as many as its count says
 unfoldable pub listIn : List ℕ → List ℕ → ℕ → List ℕ
@@ -90,12 +90,16 @@ abbrev pub first : {A : Type 0} → (A → Option Cause) → List A → Option C
 first f [] = none
 first f (x ∷ xs) = f x or first f xs
 
--- 6, "id outside its table": each mention of a Blas and of a Tlas, wherever it stands, is judged by these two
+-- "id outside its table": each mention of a Blas and of a Tlas, wherever it stands, is judged by its sort's one rule; 0 is nothing
+abbrev pub mentioned : ℕ → Option Cause
+mentioned zero = none
+mentioned (suc n) = some (bare (suc n))
+
 abbrev pub mentionBlas : Lent → ℕ → Option Cause
-mentionBlas l b = on (leb (blasCount l) b) (bare 6)
+mentionBlas l b = mentioned (blasMention (l .blases) b)
 
 abbrev pub mentionTlas : Lent → ℕ → Option Cause
-mentionTlas l t = on (leb (tlasCount l) t) (bare 6)
+mentionTlas l t = mentioned (tlasMention (l .tlases) t)
 
 -- ---- "The start is judged before all actions, at action 0"
 
