@@ -14,6 +14,7 @@ pub mod Firsts
 pub mod Judging
 pub mod Sound
 pub mod Cuts
+pub mod Verdicts
 pub mod Inside
 pub mod Accepted
 pub mod Builds

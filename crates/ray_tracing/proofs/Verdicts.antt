@@ -1,0 +1,120 @@
+-- Laws of verdicts: what a verdict that passes tells of its parts, and one part more, as a loop meets it.
+use Prim.Native.Nat.{ℕ, zero, suc, _+_, _-_, _*_, _/_, _≤_, _<_}
+use native.Mathlib.Nat.{not-suc-le-zero, le-of-suc-le-suc, add-zero, le-div-iff-mul-le}
+use native.Mathlib.Omega.{arith}
+use mathlib.Core.Bool.{Bool, true, false}
+use mathlib.Core.Path.{_≡_, refl, sym, _∙_}
+use mathlib.Core.List.{List}
+use lib.ListN.{length}
+use lib.Dec.{leb}
+use borrow.Author.Tests.{leb-false}
+use Rattle.ray_tracing.specs.Guard.{refuse}
+use Rattle.ray_tracing.specs.Causes.{Cause}
+use Rattle.ray_tracing.specs.Mentions.{mention}
+use Rattle.ray_tracing.specs.Plan.{Verdict, passed, refused, on, _or_, atE, firstOf, firstDrawing}
+
+-- ---- what passing tells
+
+pub refused-not-passed : (e f : ℕ) (c : Cause) → refused e f c ≡ passed → ⊥
+refused-not-passed e f c h =
+    let z : _≡_ {A = ℕ} 0 1 = cc in
+    omega arith
+
+pub or-passed : (a b : Verdict) → (a or b) ≡ passed → (a ≡ passed) × (b ≡ passed)
+or-passed passed b h = (refl, h)
+or-passed (refused e f c) b h = absurd (refused-not-passed e f c h)
+
+pub on-passed : (t : Bool) (e f : ℕ) (c : Cause) → on t (refused e f c) ≡ passed → t ≡ false
+on-passed false e f c h = refl
+on-passed true e f c h = absurd (refused-not-passed e f c h)
+
+pub on-true : (t : Bool) (v : Verdict) → on t v ≡ passed → t ≡ true → v ≡ passed
+on-true true v h g = h
+on-true false v h g =
+    let z : _≡_ {A = ℕ} 0 1 = cc in
+    absurd (omega arith)
+
+pub none-atE : (e f n : ℕ) → atE e f n ≡ passed → n ≡ 0
+none-atE e f zero h = refl
+none-atE e f (suc n) h =
+    let z : _≡_ {A = ℕ} 0 1 = cc in
+    absurd (omega arith)
+
+-- an id that is not refused is inside its table
+pub mention-inside : (w : ℕ) (t : List ℕ) (id : ℕ) → mention w t id ≡ 0 → id < length t / w
+unfolding refuse
+mention-inside w t id h = go (leb (length t / w) id) refl h
+  where
+    go : (b : Bool) → leb (length t / w) id ≡ b → _≡_ {A = ℕ} (refuse b 6 0) 0 → id < length t / w
+    go true e q = absurd (omega arith)
+    go false e q = leb-false (length t / w) id e
+
+-- and its record is whole
+pub record-whole : (w : ℕ) (t : List ℕ) (id : ℕ) → 0 < w → id < length t / w → id * w + w ≤ length t
+record-whole w t id p h = omega (arith, le-div-iff-mul-le {k = w} {x = id + 1} {y = length t} p .0 (omega arith))
+
+-- ---- the first of many
+
+pub each-passed : (f : ℕ → Verdict) (n i : ℕ) → firstOf f i n ≡ passed → (k : ℕ) → k < n → f (i + k) ≡ passed
+unfolding firstOf
+each-passed f zero i e k h = absurd (not-suc-le-zero h)
+each-passed f (suc n) i e zero h = rw add-zero (or-passed (f i) _ e .0)
+each-passed f (suc n) i e (suc k) h =
+    let m : i + 1 + k ≡ i + suc k = omega arith in
+    rw m at (each-passed f n (i + 1) (or-passed (f i) _ e .1) k (le-of-suc-le-suc h))
+
+-- as a loop goes: what is left from i on is the whole
+module _ (f : ℕ → Verdict) (i n : ℕ) (whole : Verdict) (left : firstOf f i (n - i) ≡ whole) where
+  pub ended : n ≤ i → passed ≡ whole
+  unfolding firstOf
+  ended h =
+      let e : n - i ≡ 0 = omega arith in
+      rw e at left
+
+  module _ (h : i < n) where
+    turn : (f i or firstOf f (i + 1) (n - (i + 1))) ≡ whole
+    unfolding firstOf
+    turn =
+        let e : n - i ≡ suc (n - (i + 1)) = omega arith in
+        rw e at left
+
+    pub found : {v : Verdict} (e g : ℕ) (c : Cause) → v ≡ f i → v ≡ refused e g c → v ≡ whole
+    found e g c p q = q ∙ rw (sym p ∙ q) at turn
+
+    pub onward : f i ≡ passed → firstOf f (i + 1) (n - (i + 1)) ≡ whole
+    onward p = rw p at turn
+
+-- ---- the first of many that draw in turn
+
+module _ (f : ℕ → ℕ → Verdict) (count : ℕ → ℕ) where
+  -- with the number of those drawn before each
+  module _ (before : ℕ → ℕ) (more : (i : ℕ) → before (i + 1) ≡ before i + count i) where
+    pub each-drawing :
+        (n i : ℕ) → firstDrawing f count i (before i) n ≡ passed → (k : ℕ) → k < n → f (i + k) (before (i + k)) ≡ passed
+    unfolding firstDrawing
+    each-drawing zero i e k h = absurd (not-suc-le-zero h)
+    each-drawing (suc n) i e zero h = rw add-zero (or-passed (f i (before i)) _ e .0)
+    each-drawing (suc n) i e (suc k) h =
+        let m : i + 1 + k ≡ i + suc k = omega arith in
+        let e′ = or-passed (f i (before i)) _ e .1 in
+        rw m at (each-drawing n (i + 1) (rw (more i) e′) k (le-of-suc-le-suc h))
+
+  module _ (i g n : ℕ) (whole : Verdict) (left : firstDrawing f count i g (n - i) ≡ whole) where
+    pub ended-drawing : n ≤ i → passed ≡ whole
+    unfolding firstDrawing
+    ended-drawing h =
+        let e : n - i ≡ 0 = omega arith in
+        rw e at left
+
+    module _ (h : i < n) where
+      turn-drawing : (f i g or firstDrawing f count (i + 1) (g + count i) (n - (i + 1))) ≡ whole
+      unfolding firstDrawing
+      turn-drawing =
+          let e : n - i ≡ suc (n - (i + 1)) = omega arith in
+          rw e at left
+
+      pub found-drawing : {v : Verdict} (e k : ℕ) (c : Cause) → v ≡ f i g → v ≡ refused e k c → v ≡ whole
+      found-drawing e k c p q = q ∙ rw (sym p ∙ q) at turn-drawing
+
+      pub onward-drawing : f i g ≡ passed → firstDrawing f count (i + 1) (g + count i) (n - (i + 1)) ≡ whole
+      onward-drawing p = rw p at turn-drawing
