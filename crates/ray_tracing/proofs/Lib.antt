@@ -23,3 +23,4 @@ pub mod Agree
 pub mod Words
 pub mod Demand3
 pub mod Decode
+pub mod Applied

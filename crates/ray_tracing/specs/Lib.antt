@@ -13,3 +13,4 @@ pub mod Submission
 pub mod History
 pub mod Claim
 pub mod Writing
+pub mod DemandExamples
