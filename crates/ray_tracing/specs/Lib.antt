@@ -14,3 +14,4 @@ pub mod History
 pub mod Claim
 pub mod Writing
 pub mod DemandExamples
+pub mod Examples
