@@ -1,13 +1,13 @@
 -- What the reader knows after k sections, carried over one section more, and what it answers by it.
 use Prim.Native.Nat.{ℕ, zero, suc, _+_, _-_, _*_, _≤_, _<_}
 use native.Mathlib.Omega.{arith}
-use mathlib.Core.Bool.{Bool, true, false}
+use mathlib.Core.Bool.{Bool, true, false, cond}
 use mathlib.Core.Path.{_≡_, refl, sym, _∙_}
 use mathlib.Core.List.{List}
 use lib.Dec.{eqb, ltb}
 use lib.ListN.{length, getD, set, length-set}
 use lib.Seq.{getD-set-same, getD-set-other}
-use borrow.Author.Tests.{lt-ltb, le-ltb, eqb-true, eqb-false}
+use borrow.Author.Tests.{lt-ltb, le-ltb, ltb-true, ltb-false, eqb-true, eqb-false}
 use Rattle.wire.specs.Wire.{leAt}
 use Rattle.ray_tracing.specs.declared.Section.{Section}
 use Rattle.ray_tracing.specs.Layout.{size}
@@ -27,7 +27,38 @@ use Rattle.ray_tracing.specs.Reading.{
   rejected,
   readSheet,
 }
+use Rattle.sheet.specs.Count.{countAt}
+use Rattle.sheet.specs.declared.Counted.the-variants.{Records, Truncated}
 use Rattle.ray_tracing.proofs.Reading.{section-whole, past-more, from-more, section-fine, section-refused}
+
+-- what a count that is read tells, and one that is not
+pub count-there : (s : List ℕ) (at n : ℕ) → countAt s at ≡ Records n → (at + 2 ≤ length s) × (n ≡ leAt 2 s at)
+count-there s at n e = go (ltb (length s) (at + 2)) refl e
+  where
+    go :
+        (b : Bool)
+        → ltb (length s) (at + 2) ≡ b
+        → cond b Truncated (Records (leAt 2 s at)) ≡ Records n
+        → (at + 2 ≤ length s) × (n ≡ leAt 2 s at)
+    go true b e =
+        let z : _≡_ {A = ℕ} 0 1 = cc in
+        absurd (omega arith)
+    go false b e =
+        let z : n ≡ leAt 2 s at = cc in
+        (ltb-false (length s) (at + 2) b, z)
+
+pub count-early : (s : List ℕ) (at : ℕ) → countAt s at ≡ Truncated → length s < at + 2
+count-early s at e = go (ltb (length s) (at + 2)) refl e
+  where
+    go : (b : Bool) → ltb (length s) (at + 2) ≡ b → cond b Truncated (Records (leAt 2 s at)) ≡ Truncated → length s < at + 2
+    go true b e = ltb-true (length s) (at + 2) b
+    go false b e =
+        let z : _≡_ {A = ℕ} 0 1 = cc in
+        absurd (omega arith)
+
+pub section-early : (s : List ℕ) (k a p : ℕ) → length s < p + 2 → judgeSection s k a p ≡ refused 2 p
+unfolding judgeSection
+section-early s k a p h = rw (lt-ltb (length s) (p + 2) h)
 
 -- a list that holds f below k, with f k stored at k
 stored :

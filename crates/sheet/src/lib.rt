@@ -21,6 +21,7 @@ ghost use Rattle.wire.specs.Wire.{leAt};
 ghost use Rattle.ray_tracing.specs.Layout.{layout, size};
 ghost use Rattle.ray_tracing.specs.Reading.{begin, judgeRecords, judgeDrawn, judgeTable, sumOfCounts, addsUp, judgeLent, judgeSection, readSheet};
 ghost use Rattle.ray_tracing.specs.Causes.{judgedOf, readingOf};
+ghost use Rattle.sheet.specs.Count.{countAt};
 ghost use Rattle.sheet.specs.Table.{seen, judgeViews, ruleOf, fieldsFrom, isWidth, Widths};
 
 // The rules of `fits` by number, and two more: a Blas of section 2, and an id that may be 65535, none.
@@ -229,7 +230,7 @@ fn judge_fields(
 }
 
 // How many records of `each` bytes there are; none, where a record has no bytes.
-fn count_of(bytes: usize, each: usize) -> usize
+fn records_in(bytes: usize, each: usize) -> usize
     ensures { λ r. ⌜ r ≡ bytes / each ⌝ }
 {
     if each == 0 {
@@ -258,7 +259,7 @@ fn judge_records(
     let end = FIRST[section + 1];
     let ruled = RULED[section];
     let size = size_of(section);
-    let count = count_of(before.len(), each);
+    let count = records_in(before.len(), each);
     let mut p = at;
     let mut left = n;
     while 0 < left {
@@ -320,7 +321,7 @@ fn judge_table(s: &[u8], at: usize, n: usize, section: usize, before: &[u8], eac
 }
 
 // Whether the counts at `offset` of all records of `width` bytes add up to n.
-fn draws(t: &[u8], width: usize, offset: usize, n: usize) -> bool
+fn sums_to(t: &[u8], width: usize, offset: usize, n: usize) -> bool
     requires { ⌜ (offset + 2 ≤ width) × (width < 64) ⌝ }
     ensures { λ r. ⌜ r ≡ eqb (sumOfCounts (now (t .entry)) width offset (length (now (t .entry)) / width)) n ⌝ }
 {
@@ -346,10 +347,10 @@ fn adds_up(section: usize, before: &[u8], n: usize) -> bool
     ensures { λ r. ⌜ r ≡ addsUp section (now (before .entry)) n ⌝ }
 {
     if section == 6 {
-        return draws(before, size_of(5), 3, n);
+        return sums_to(before, size_of(5), 3, n);
     }
     if section == 8 {
-        return draws(before, size_of(7), 2, n);
+        return sums_to(before, size_of(7), 2, n);
     }
     true
 }
@@ -380,14 +381,11 @@ pub fn judge_lent(table: &[u8], section: usize, before: &[u8]) -> Judged
     Judged::Fine
 }
 
-// The section after section k: its count at `at`, the records of section k from a on.
-fn judge_section(sheet: &[u8], k: usize, a: usize, at: usize) -> Judged
-    requires { ⌜ (k < 9) × ((a ≤ at) × (at ≤ length (now sheet))) ⌝ }
+// The section after section k: its count stands at `at`, the records of section k from a on.
+fn judge_section(sheet: &[u8], at: usize, k: usize, a: usize) -> Judged
+    requires { ⌜ (k < 9) × ((a ≤ at) × (at + 2 ≤ length (now sheet))) ⌝ }
     ensures { λ r. ⌜ judgedOf r ≡ judgeSection (now (sheet .entry)) k a at ⌝ }
 {
-    if sheet.len() - at < 2 {
-        return Judged::Refused(SheetError::Truncated, at);
-    }
     let n = u16_at(sheet, at) as usize;
     if most_of(k + 1) < n {
         return Judged::Refused(SheetError::TooMany, at);
@@ -397,6 +395,66 @@ fn judge_section(sheet: &[u8], k: usize, a: usize, at: usize) -> Judged
         return Judged::Refused(SheetError::InvalidValue, at);
     }
     judge_table(sheet, at + 2, n, k + 1, before, size_of(k))
+}
+
+// What stands where a section's count should.
+pub enum Counted {
+    Records(u16),
+    Truncated,
+}
+
+fn count_at(sheet: &[u8], at: usize) -> Counted
+    ensures { λ r. ⌜ r ≡ countAt (now (sheet .entry)) at ⌝ }
+{
+    if sheet.len() < 2 {
+        return Counted::Truncated;
+    }
+    if sheet.len() - 2 < at {
+        return Counted::Truncated;
+    }
+    Counted::Records(u16_at(sheet, at))
+}
+
+// A sheet and the place of a section's count in it. Proofs over a struct that holds a slice are by hand, so its functions only take it
+// apart.
+pub struct SectionReader<'a> {
+    pub sheet: &'a [u8],
+    pub at: usize,
+}
+
+impl<'a> SectionReader<'a> {
+    pub fn new(sheet: &'a [u8], at: usize) -> SectionReader<'a>
+        ensures { λ r. ⌜ (r .sheet ≡ sheet .entry) × (r .at ≡ at) ⌝ }
+    {
+        SectionReader { sheet, at }
+    }
+
+    pub fn count(self) -> Counted
+        ensures { λ r. ⌜ r ≡ countAt (now (self .entry .sheet)) (self .entry .at) ⌝ }
+    {
+        count_at(self.sheet, self.at)
+    }
+
+    // The section after section k, whose records begin at a.
+    pub fn section(self, k: usize, a: usize) -> Judged
+        requires { ⌜ (k < 9) × ((a ≤ self .at) × (self .at + 2 ≤ length (now (self .sheet)))) ⌝ }
+        ensures { λ r. ⌜ judgedOf r ≡ judgeSection (now (self .entry .sheet)) k a (self .entry .at) ⌝ }
+    {
+        judge_section(self.sheet, self.at, k, a)
+    }
+}
+
+fn read_count(sheet: &[u8], at: usize) -> Counted
+    ensures { λ r. ⌜ r ≡ countAt (now (sheet .entry)) at ⌝ }
+{
+    SectionReader::new(sheet, at).count()
+}
+
+fn read_section(sheet: &[u8], at: usize, k: usize, a: usize) -> Judged
+    requires { ⌜ (k < 9) × ((a ≤ at) × (at + 2 ≤ length (now sheet))) ⌝ }
+    ensures { λ r. ⌜ judgedOf r ≡ judgeSection (now (sheet .entry)) k a at ⌝ }
+{
+    SectionReader::new(sheet, at).section(k, a)
 }
 
 fn section_at(start: [usize; 9], count: [usize; 9], k: usize) -> Section
@@ -429,15 +487,17 @@ pub fn read_sheet(sheet: &[u8]) -> SheetRead
     let mut a = p;
     let mut k = 0;
     while k < 9 {
-        if let Judged::Refused(e, q) = judge_section(sheet, k, a, p) {
+        let Counted::Records(n) = read_count(sheet, p) else {
+            return SheetRead::Refused(SheetError::Truncated, p);
+        };
+        if let Judged::Refused(e, q) = read_section(sheet, p, k, a) {
             return SheetRead::Refused(e, q);
         }
-        let n = u16_at(sheet, p) as usize;
         a = p + 2;
         start[k] = a;
-        count[k] = n;
+        count[k] = n as usize;
         k += 1;
-        p = a + n * size_of(k);
+        p = a + n as usize * size_of(k);
     }
     if p < sheet.len() {
         return SheetRead::Refused(SheetError::TrailingBytes, p);

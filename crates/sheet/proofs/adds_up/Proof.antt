@@ -11,8 +11,8 @@ adds-up-spec =
     (tie.spec
     (λ c κs. search needs)
     (λ c κs. rw (c .size-of .ensures) (omega arith, omega arith))
-    (λ c. rw (eq-eqb _ 6 (c .before .before .if1 .taken)) (rw (c .before .size-of .ensures) at (c .draws .ensures)))
+    (λ c. rw (eq-eqb _ 6 (c .before .before .if1 .taken)) (rw (c .before .size-of .ensures) at (c .sums-to .ensures)))
     (λ c κs. search needs)
     (λ c κs. rw (c .size-of2 .ensures) (omega arith, omega arith))
-    (λ c. rw (ne-eqb _ 6 (c .before .before .before .if1 .left), eq-eqb _ 8 (c .before .before .if2 .taken)) (rw (c .before .size-of2 .ensures) at (c .draws2 .ensures)))
+    (λ c. rw (ne-eqb _ 6 (c .before .before .before .if1 .left), eq-eqb _ 8 (c .before .before .if2 .taken)) (rw (c .before .size-of2 .ensures) at (c .sums-to2 .ensures)))
     (λ c. rw (ne-eqb _ 6 (c .before .if1 .left), ne-eqb _ 8 (c .if2 .left))))

@@ -23,7 +23,7 @@ abbrev μ-loop : tie.MeasureT-loop
 
 judge-fields-requires : tie.Need-judge-fields-requires Inv-loop μ-loop
 judge-fields-requires c κs = (
-  (c .before .before .before .loop .inv .0, c .before .before .before .before .count-of .ensures),
+  (c .before .before .before .loop .inv .0, c .before .before .before .before .records-in .ensures),
   (
     rw (c .before .pick .ensures)
         (stops (leb (c .before .before .before .before .before .size-of .result) (length (c .before .before .before .before .before .before .before .before .args .s .now) - c .before .before .before .loop .p)) (c .before .before .before .before .before .before .before .before .args .section) (search needs)),

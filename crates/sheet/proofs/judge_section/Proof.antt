@@ -11,44 +11,38 @@ use Rattle.sheet.proofs.judge_section.Tie as tie
 returns : tie.Need-returns
 unfolding judgeSection
 returns c =
-    let a = c .before .before .args in
-    rw (lt-ltb (length (a .sheet .now)) (a .at + 2) (omega arith))
-
-returns-2 : tie.Need-returns-2
-unfolding judgeSection
-returns-2 c =
-    let a = c .before .before .before .before .before .args in
+    let a = c .before .before .before .before .args in
     rw (
       le-ltb (length (a .sheet .now)) (a .at + 2) (omega arith),
       ← c .before .before .u16-at .ensures,
       ← c .before .most-of .ensures,
-      lt-ltb _ _ (c .if2 .taken),
+      lt-ltb _ _ (c .if1 .taken),
+    )
+
+returns-2 : tie.Need-returns-2
+unfolding judgeSection
+returns-2 c =
+    let a = c .before .before .before .before .before .before .before .args in
+    rw (
+      le-ltb (length (a .sheet .now)) (a .at + 2) (omega arith),
+      ← c .before .before .before .before .before .u16-at .ensures,
+      ← c .before .before .before .before .most-of .ensures,
+      le-ltb _ _ (c .before .before .before .if1 .left),
+      ← c .before .adds-up .ensures,
+      not-true (c .before .adds-up .result) (c .if2 .taken),
     )
 
 returns-3 : tie.Need-returns-3
 unfolding judgeSection
 returns-3 c =
-    let a = c .before .before .before .before .before .before .before .before .args in
-    rw (
-      le-ltb (length (a .sheet .now)) (a .at + 2) (omega arith),
-      ← c .before .before .before .before .before .u16-at .ensures,
-      ← c .before .before .before .before .most-of .ensures,
-      le-ltb _ _ (c .before .before .before .if2 .left),
-      ← c .before .adds-up .ensures,
-      not-true (c .before .adds-up .result) (c .if3 .taken),
-    )
-
-returns-4 : tie.Need-returns-4
-unfolding judgeSection
-returns-4 c =
-    let a = c .before .before .before .before .before .before .before .before .before .before .args in
+    let a = c .before .before .before .before .before .before .before .before .before .args in
     rw (
       le-ltb (length (a .sheet .now)) (a .at + 2) (omega arith),
       ← c .before .before .before .before .before .before .before .u16-at .ensures,
       ← c .before .before .before .before .before .before .most-of .ensures,
-      le-ltb _ _ (c .before .before .before .before .before .if2 .left),
+      le-ltb _ _ (c .before .before .before .before .before .if1 .left),
       ← c .before .before .before .adds-up .ensures,
-      not-false (c .before .before .before .adds-up .result) (c .before .before .if3 .left),
+      not-false (c .before .before .before .adds-up .result) (c .before .before .if2 .left),
       ← c .before .size-of .ensures,
     )
     (c .judge-table .ensures)
@@ -57,21 +51,19 @@ pub judge-section-spec : {M : Type 1} → statement M
 judge-section-spec =
     tie.close
     (tie.spec
-    (λ c. search needs)
-    returns
     (λ c κs. search needs)
+    (λ c. search needs)
+    (λ c. search needs)
+    (λ c κs. search needs)
+    returns
+    (λ c. search needs)
+    (λ c. search needs)
     (λ c. search needs)
     (λ c. search needs)
     (λ c κs. search needs)
     returns-2
     (λ c. search needs)
     (λ c. search needs)
-    (λ c. search needs)
-    (λ c. search needs)
-    (λ c κs. search needs)
-    returns-3
-    (λ c. search needs)
-    (λ c. search needs)
     (λ c κs. search needs)
     (λ c κs. search needs)
-    returns-4)
+    returns-3)

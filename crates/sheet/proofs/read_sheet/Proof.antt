@@ -10,7 +10,7 @@ use Rattle.ray_tracing.specs.Layout.{layout, size}
 use Rattle.ray_tracing.specs.Reading.{fine, past, from, judgeSection, judgeSheet, accepted, readSheet}
 use Rattle.ray_tracing.specs.Causes.{judgedOf}
 use Rattle.ray_tracing.proofs.Reading.{records-whole, section-whole}
-use Rattle.sheet.proofs.Sections.{Known, known-next, refused-at, left-over, read, section-found}
+use Rattle.sheet.proofs.Sections.{Known, count-there, count-early, section-early, known-next, refused-at, left-over, read, section-found}
 use Rattle.sheet.proofs.read_sheet.Statement.{statement}
 use Rattle.sheet.proofs.read_sheet.Tie as tie
 
@@ -66,34 +66,48 @@ loop-holds c =
 
 returns-4 : tie.Need-returns-4 Inv-loop μ-loop
 returns-4 c =
+    let l = c .before .before .before .before .loop in
     sym
-    (refused-at _ _ _ _ _ _ (c .before .before .before .before .before .loop .inv) _ _ (c .before .before .before .before .loop-test .taken) (sym (c .before .before .before .judge-section .ensures) ∙ ap judgedOf (c .before .e2 .given .1)))
+    (refused-at _ _ _ _ _ _ (l .inv) 2 (l .p) (c .before .before .before .loop-test .taken) (section-early _ (l .k) (l .a) (l .p) (count-early (c .before .before .before .before .before .before .before .before .before .before .before .before .before .before .args .sheet .now) (l .p) (sym (c .before .before .read-count .ensures) ∙ c .enum-told2 .given .1))))
 
-module _ (c : tie.After-enum-told2 Inv-loop μ-loop) where
-  judged : judgeSection (c .before .before .before .before .before .before .before .before .before .before .before .before .before .before .args .sheet .now) (c .before .before .before .before .loop .k) (c .before .before .before .before .loop .a) (c .before .before .before .before .loop .p) ≡ fine
-  judged = sym (c .before .before .judge-section .ensures) ∙ ap judgedOf (c .enum-told2 .given .1)
+-- the count is there
+module _ (c : tie.After-n Inv-loop μ-loop) where
+  counted : (c .before .before .before .before .loop .p + 2 ≤ length (c .before .before .before .before .before .before .before .before .before .before .before .before .before .before .args .sheet .now)) × (c .n .given .0 .0 ≡ leAt 2 (c .before .before .before .before .before .before .before .before .before .before .before .before .before .before .args .sheet .now) (c .before .before .before .before .loop .p))
+  counted = count-there _ _ _ (sym (c .before .before .read-count .ensures) ∙ c .n .given .1)
+
+read-section-requires : tie.Need-read-section-requires Inv-loop μ-loop
+read-section-requires c κs = (search needs, (c .before .before .before .before .before .loop .inv .order, counted (c .before) .0))
+
+returns-5 : tie.Need-returns-5 Inv-loop μ-loop
+returns-5 c =
+    sym
+    (refused-at _ _ _ _ _ _ (c .before .before .before .before .before .before .before .before .before .loop .inv) _ _ (c .before .before .before .before .before .before .before .before .loop-test .taken) (sym (c .before .before .before .read-section .ensures) ∙ ap judgedOf (c .before .e2 .given .1)))
+
+module _ (c : tie.After-enum-told3 Inv-loop μ-loop) where
+  judged : judgeSection (c .before .before .before .before .before .before .before .before .before .before .before .before .before .before .before .before .before .before .args .sheet .now) (c .before .before .before .before .before .before .before .before .loop .k) (c .before .before .before .before .before .before .before .before .loop .a) (c .before .before .before .before .before .before .before .before .loop .p) ≡ fine
+  judged = sym (c .before .before .read-section .ensures) ∙ ap judgedOf (c .enum-told3 .given .1)
 
   section-there :
-      c .before .before .before .before .loop .p + 2 + leAt 2 (c .before .before .before .before .before .before .before .before .before .before .before .before .before .before .args .sheet .now) (c .before .before .before .before .loop .p) * size (c .before .before .before .before .loop .k + 1)
-      ≤ length (c .before .before .before .before .before .before .before .before .before .before .before .before .before .before .args .sheet .now)
-  section-there = section-whole _ (c .before .before .before .before .loop .k) (c .before .before .before .before .loop .a) (c .before .before .before .before .loop .p) judged
+      c .before .before .before .before .before .before .before .before .loop .p + 2 + leAt 2 (c .before .before .before .before .before .before .before .before .before .before .before .before .before .before .before .before .before .before .args .sheet .now) (c .before .before .before .before .before .before .before .before .loop .p) * size (c .before .before .before .before .before .before .before .before .loop .k + 1)
+      ≤ length (c .before .before .before .before .before .before .before .before .before .before .before .before .before .before .before .before .before .before .args .sheet .now)
+  section-there = section-whole _ (c .before .before .before .before .before .before .before .before .loop .k) (c .before .before .before .before .before .before .before .before .loop .a) (c .before .before .before .before .before .before .before .before .loop .p) judged
 
 mul-p : tie.Need-mul-p Inv-loop μ-loop
-mul-p c = omega (arith, rw (← c .before .u16-at .ensures, ← c .size-of2 .ensures) at (section-there (c .before .before)))
+mul-p c = omega (arith, rw (← counted (c .before .before .before .before .before) .1, ← c .size-of2 .ensures) at (section-there (c .before)))
 
 add-p-2 : tie.Need-add-p-2 Inv-loop μ-loop
-add-p-2 c = omega (arith, rw (← c .before .u16-at .ensures, ← c .size-of2 .ensures) at (section-there (c .before .before)))
+add-p-2 c = omega (arith, rw (← counted (c .before .before .before .before .before) .1, ← c .size-of2 .ensures) at (section-there (c .before)))
 
 loop-again : tie.Need-loop-again Inv-loop μ-loop
 loop-again c =
-    rw (c .before .u16-at .ensures, c .size-of2 .ensures)
-    (known-next _ _ _ _ _ _ (c .before .before .before .before .before .before .loop .inv) (c .before .before .before .before .before .loop-test .taken) (judged (c .before .before)))
-
-returns-5 : tie.Need-returns-5 Inv-loop μ-loop
-returns-5 c = sym (left-over _ _ _ _ _ _ (c .before .before .loop .inv) (c .before .loop-test .left) (c .if3 .taken))
+    rw (counted (c .before .before .before .before .before) .1, c .size-of2 .ensures)
+    (known-next _ _ _ _ _ _ (c .before .before .before .before .before .before .before .before .before .loop .inv) (c .before .before .before .before .before .before .before .before .loop-test .taken) (judged (c .before)))
 
 returns-6 : tie.Need-returns-6 Inv-loop μ-loop
-returns-6 c =
+returns-6 c = sym (left-over _ _ _ _ _ _ (c .before .before .loop .inv) (c .before .loop-test .left) (c .if3 .taken))
+
+returns-7 : tie.Need-returns-7 Inv-loop μ-loop
+returns-7 c =
     let g = c .before .before .before .before .before .before .before .before .before .before .before .before .before .loop .inv in
     let h = c .before .before .before .before .before .before .before .before .before .before .before .before .loop-test .left in
     let found = section-found _ _ _ _ _ _ g h in
@@ -132,24 +146,28 @@ read-sheet-spec =
     (λ c κs. search needs)
     (λ c. omega (arith, c .size-of .ensures))
     loop-holds
-    (λ c κs. (search needs, (c .before .loop .inv .order, c .before .loop .inv .whole)))
+    (λ c κs. search needs)
+    (λ c. search needs)
     (λ c. search needs)
     returns-4
+    read-section-requires
     (λ c. search needs)
-    (λ c κs. omega (arith, section-there c))
+    returns-5
     (λ c. search needs)
-    (λ c. omega (arith, section-there (c .before)))
+    (λ c. omega (arith, section-there c))
+    (λ c. omega arith)
+    (λ c. omega arith)
+    (λ c. search needs)
     (λ c. omega arith)
     (λ c. omega arith)
     (λ c. omega arith)
-    (λ c. omega arith)
-    (λ c. omega arith)
+    (λ c. search needs)
     (λ c κs. search needs)
     mul-p
     add-p-2
     (λ c. omega arith)
     loop-again
-    returns-5
+    returns-6
     (λ c κs. omega (arith, c .before .before .loop .inv .header, c .before .before .loop .inv .whole))
     (λ c κs. omega (arith, c .before .before .before .loop .inv .header, c .before .before .before .loop .inv .whole))
     (λ c κs. search needs)
@@ -161,4 +179,4 @@ read-sheet-spec =
     (λ c κs. search needs)
     (λ c κs. search needs)
     (λ c κs. search needs)
-    returns-6)
+    returns-7)

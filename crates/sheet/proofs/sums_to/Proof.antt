@@ -1,4 +1,4 @@
--- `sheet::draws` meets its contract: the whole sum is what was taken off n and the sum of what is left.
+-- `sheet::sums_to` meets its contract: the whole sum is what was taken off n and the sum of what is left.
 use Prim.Native.Nat.{ℕ, _+_, _*_, _/_, _≤_, _<_}
 use native.Mathlib.Nat.{div-mul-le-self}
 use native.Mathlib.Omega.{arith}
@@ -8,8 +8,8 @@ use borrow.Author.Needs.{needs}
 use borrow.Author.Tests.{eq-eqb, ne-eqb}
 use Rattle.ray_tracing.specs.Reading.{sumOfCounts}
 use Rattle.ray_tracing.proofs.Reading.{one-less, sum-more}
-use Rattle.sheet.proofs.draws.Statement.{statement}
-use Rattle.sheet.proofs.draws.Tie as tie
+use Rattle.sheet.proofs.sums_to.Statement.{statement}
+use Rattle.sheet.proofs.sums_to.Tie as tie
 
 abbrev Inv-loop : tie.InvT-loop
 Inv-loop t width offset n q₀ rest₀ left₀ q rest left =
@@ -66,8 +66,8 @@ returns-3 c =
     let f = rw z at (c .before .before .loop .inv .1 .1) in
     sym (ne-eqb d (a .n) (λ (e : d ≡ a .n). omega (arith, c .if2 .left)))
 
-pub draws-spec : {M : Type 1} → statement M
-draws-spec =
+pub sums-to-spec : {M : Type 1} → statement M
+sums-to-spec =
     tie.close
     (tie.spec
     Inv-loop
