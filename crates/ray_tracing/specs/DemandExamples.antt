@@ -16,9 +16,12 @@ use Rattle.ray_tracing.specs.Claim.{Cut}
 
 -- ---- bytes
 
--- a Blas with a number, of 300 bytes of scratch and some address
+-- a Blas by its state, destroyed byte and number, of 300 bytes of scratch and some address
+abbrev pub blasWith : ℕ → ℕ → ℕ → List ℕ
+blasWith state destroyed n = 0 ∷ 7 ∷ state ∷ destroyed ∷ (leBytes 8 300 ++ (leBytes 8 77 ++ leBytes 8 n))
+
 abbrev pub blasBytes : ℕ → List ℕ
-blasBytes n = 0 ∷ 7 ∷ 0 ∷ 0 ∷ (leBytes 8 300 ++ (leBytes 8 77 ++ leBytes 8 n))
+blasBytes n = blasWith 0 0 n
 
 abbrev pub tlasBytes : ℕ → List ℕ
 tlasBytes n = 2 ∷ 0 ∷ (leBytes 8 1000 ++ (leBytes 4 5 ++ leBytes 8 n))
@@ -176,3 +179,43 @@ pub past-lent :
     ≡ malformed ∷ malformed ∷ []
 unfolding packagesAt packagesLent action decodeCells
 past-lent = refl
+
+-- one Blas and a Tlas that lists it
+abbrev pub single : ℕ → List ℕ → ℕ → Lent
+single c b t =
+    record { counter = c; blases = b; tlases = tlasBytes t; dependencyCounts = 1 ∷ []; dependencies = 0 ∷ replicate 511 9 }
+
+-- a Blas newer and destroyed is 44
+pub newer-and-destroyed :
+    submission (single 9 (blasWith 0 1 5) 4) (decode (piece (2 ∷ 0 ∷ 0 ∷ 0 ∷ []) []))
+    ≡ refused 0 (cause 44 0 0 0) leaving single 9 (blasWith 0 1 5) 4
+unfolding judge judgeLent judgeRecords judgeFields judgeLists leAt leBytes blasIn tlasIn listIn refuse packagesAt packagesLent action decodeCells before builtBlas builtBlases builtTlas buildTlases act step run submission
+newer-and-destroyed = refl
+
+-- one without number and destroyed is 42, and gives Tlas, Blas
+pub unnumbered-and-destroyed :
+    submission (single 9 (blasWith 0 1 0) 4) (decode (piece (2 ∷ 0 ∷ 0 ∷ 0 ∷ []) []))
+    ≡ refused 0 (cause 42 0 0 0) leaving single 9 (blasWith 0 1 0) 4
+unfolding judge judgeLent judgeRecords judgeFields judgeLists leAt leBytes blasIn tlasIn listIn refuse packagesAt packagesLent action decodeCells before builtBlas builtBlases builtTlas buildTlases act step run submission
+unnumbered-and-destroyed = refl
+
+-- a Blas to build is compacted, and the counter is 0: 40
+pub exhausted-and-compacted :
+    submission (single 0 (blasWith 3 0 5) 4) (decode (piece (3 ∷ 0 ∷ 0 ∷ 0 ∷ []) []))
+    ≡ refused 0 (bare 40) leaving single 0 (blasWith 3 0 5) 4
+unfolding judge judgeLent judgeRecords judgeFields judgeLists leAt leBytes blasIn tlasIn listIn refuse packagesAt packagesLent action decodeCells before builtBlas builtBlases builtTlas buildTlases act step run submission
+exhausted-and-compacted = refl
+
+-- a Tlas listed twice, the second time with a Blas without number: 42, and the first stands, with the Build's Blas and the counter's step
+pub twice-42 :
+    submission (lent 5 0 0 0 [] 512) (decode (piece (1 ∷ 0 ∷ 1 ∷ 2 ∷ []) (0 ∷ 0 ∷ 1 ∷ 0 ∷ 0 ∷ 1 ∷ 1 ∷ [])))
+    ≡ refused 0 (cause 42 1 0 0) leaving lent 6 5 0 5 (0 ∷ []) 511
+unfolding judge judgeLent judgeRecords judgeFields judgeLists leAt leBytes blasIn tlasIn listIn refuse packagesAt packagesLent action decodeCells before builtBlas builtBlases builtTlas buildTlases act step run submission
+twice-42 = refl
+
+-- the history counts nothing after a refused action
+pub none-after-refused :
+    log (tellActions (lent 5 0 0 0 [] 512) [] (malformed ∷ build (0 ∷ []) [] ∷ []))
+    ≡ []
+unfolding judge judgeLent judgeRecords judgeFields judgeLists leAt leBytes blasIn tlasIn listIn refuse packagesAt packagesLent action decodeCells allowed acts tellAction tellActions
+none-after-refused = refl
