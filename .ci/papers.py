@@ -51,7 +51,8 @@ for file in sorted((root / "crates").glob("**/*")):
         continue
     if TRADE & set(re.split(r"[^a-z]+", file.name.lower())):
         faults.append(f"{file.relative_to(root)}: a word of the trade in a file name")
-    if file.suffix not in {".rt", ".antt"}:
+    # a function's own proof cites the logic's names, which are not ours
+    if file.suffix not in {".rt", ".antt"} or file.name == "Proof.antt":
         continue
     for number, line in enumerate(file.read_text(encoding="utf-8").splitlines(), 1):
         code = re.split(r"//|--", line)[0]
