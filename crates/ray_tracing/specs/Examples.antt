@@ -3,7 +3,7 @@ use Prim.Native.Nat.{ℕ, zero, suc, _-_, _^_}
 use mathlib.Core.Path.{_≡_, refl}
 use mathlib.Core.Option.{none}
 use mathlib.Core.List.{List, [], _∷_, _++_}
-use lib.ListN.{length, replicate}
+use lib.ListN.{length, getD, replicate}
 use Rattle.wire.specs.Wire.{leAt, leBytes}
 use Rattle.ray_tracing.specs.Guard.{refuse}
 use Rattle.ray_tracing.specs.Layout.{Field, layout}
@@ -15,6 +15,9 @@ use Rattle.ray_tracing.specs.Plan.{firstOf, firstDrawing, declaredFrom, 
 use Rattle.ray_tracing.specs.Submission.{Lent, Piece, Outcome, accepted, refused, _leaving_, decode, submission}
 use Rattle.ray_tracing.specs.Submission.{blasIn, tlasIn, listIn, judge, judgeLists, packagesAt, packagesLent, action, decodeCells, before, builtBlas, builtBlases, builtTlas, buildTlases, act, step, run}
 use Rattle.ray_tracing.specs.DemandExamples.{lent, piece, lists-7, first-7, second-7}
+use Rattle.ray_tracing.specs.Reading.{past, from, judgeSection, judgeSections, judgeSheet, readSheet}
+use Rattle.ray_tracing.specs.Writing.{sectionBytes, sheetBytes}
+use Rattle.ray_tracing.specs.Report.{digits, spaced, line, blasLines, tlasLines, actionCells, positions, submitLines, builtLines, report}
 
 -- a whole input with its whole answer: of a build, the tables with room for what it writes, the answer, and the offsets of the Blases
 -- and of the Tlases; of a submission, what is lent, its piece, and the outcome
@@ -176,3 +179,35 @@ examples = (
     ),
   ),
 )
+
+-- The sheet program's worked sheet, and its six lines in ASCII
+
+abbrev pub workedTables : ℕ → List ℕ
+workedTables k =
+    getD
+    ([]
+    ∷ of 1 (36 ∷ 1 ∷ [])
+    ∷ of 2 (0 ∷ 0 ∷ 0 ∷ 0 ∷ 300 ∷ 0 ∷ 0 ∷ [])
+    ∷ of 3 (0 ∷ 0 ∷ 3 ∷ 1 ∷ 12 ∷ 4 ∷ 0 ∷ 0 ∷ 0 ∷ [])
+    ∷ of 4 (0 ∷ 0 ∷ 100 ∷ 1 ∷ 0 ∷ [])
+    ∷ of 5 (0 ∷ 0 ∷ 1 ∷ [])
+    ∷ of 6 (0 ∷ 3 ∷ 0 ∷ 12 ∷ 0 ∷ 1 ∷ 0 ∷ 65535 ∷ 0 ∷ 0 ∷ 0 ∷ 0 ∷ 65535 ∷ 0 ∷ 0 ∷ [])
+    ∷ of 7 (0 ∷ 1 ∷ [])
+    ∷ of 8 (1 ∷ 0 ∷ 0 ∷ 0 ∷ replicate 12 0)
+    ∷ (of 9 (1 ∷ 0 ∷ []) ++ of 9 (2 ∷ 0 ∷ []))
+    ∷ [])
+    k
+    []
+
+abbrev pub workedText : List ℕ
+workedText =
+    98 ∷ 117 ∷ 105 ∷ 108 ∷ 100 ∷ 32 ∷ 48 ∷ 32 ∷ 48 ∷ 32 ∷ 48 ∷ 32 ∷ 48 ∷ 32 ∷ 48 ∷ 32 ∷ 48 ∷ 10
+    ∷ 115 ∷ 99 ∷ 114 ∷ 97 ∷ 116 ∷ 99 ∷ 104 ∷ 32 ∷ 53 ∷ 49 ∷ 50 ∷ 10
+    ∷ 98 ∷ 108 ∷ 97 ∷ 115 ∷ 32 ∷ 48 ∷ 32 ∷ 48 ∷ 10
+    ∷ 116 ∷ 108 ∷ 97 ∷ 115 ∷ 32 ∷ 48 ∷ 32 ∷ 48 ∷ 32 ∷ 48 ∷ 32 ∷ 54 ∷ 52 ∷ 10
+    ∷ 115 ∷ 117 ∷ 98 ∷ 109 ∷ 105 ∷ 116 ∷ 32 ∷ 48 ∷ 32 ∷ 48 ∷ 32 ∷ 48 ∷ 32 ∷ 48 ∷ 10
+    ∷ 110 ∷ 101 ∷ 120 ∷ 116 ∷ 32 ∷ 50 ∷ 10 ∷ []
+
+pub worked : report (sheetBytes 256 1 workedTables) ≡ workedText
+unfolding leAt leBytes refuse judgeFields judgeRecords judgeDrawn sumOfCounts judgeLent presentOf slotsBytes slotBytes instanceBytes instanceFrom words patterns wordsAt planOf build firstOf firstDrawing declaredFrom judgeTables judgeIds judgeEntries judgePackages totalFrom offsetsFrom scratchSize judgeFinal stagingFrom rangesOfEntry rangesFrom compactableFrom entryBlases dependenciesFrom packageLists blasIn tlasIn listIn judge judgeLists packagesAt packagesLent action decodeCells before builtBlas builtBlases builtTlas buildTlases act step run submission past from judgeSection judgeSections judgeSheet readSheet sectionBytes sheetBytes digits spaced line blasLines tlasLines actionCells positions submitLines builtLines report
+worked = refl

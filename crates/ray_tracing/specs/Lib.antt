@@ -15,3 +15,4 @@ pub mod Claim
 pub mod Writing
 pub mod DemandExamples
 pub mod Examples
+pub mod Report
