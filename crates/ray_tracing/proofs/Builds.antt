@@ -19,7 +19,7 @@ use Rattle.ray_tracing.specs.Causes.{Cause, bare}
 use Rattle.ray_tracing.specs.Submission.{Lent, Package, Outcome, accepted, refused, _leaving_, unless, on, _or_, first}
 use Rattle.ray_tracing.specs.Submission.{blasCount, tlasCount, blasIn, tlasIn, listIn, blas, tlas, dependenciesOf, mentionTlas, mentionPackage, builtBlas, builtBlases, builtTlas, buildTlas, unnumbered, buildTlases}
 use Rattle.ray_tracing.specs.History.{every, whileHolds, among, firstOf, listed, cellListed}
-use Rattle.ray_tracing.proofs.Tables.{blasWith, tlasWith, built-length, built-other, built-same, raised-length, raised-other, raised-same}
+use Rattle.ray_tracing.proofs.Tables.{blasWith, tlasWith, built-length, built-other, built-same, tlas-length, tlas-other, tlas-same}
 use Rattle.ray_tracing.proofs.Firsts.{or-none, outside, inside, within, isNone, isNone-on, isNone-first}
 use Rattle.ray_tracing.proofs.Sound.{Sound, sound-tlas, tlas-list, other-list, mention-kept}
 
@@ -78,8 +78,8 @@ module _ (n : ℕ) (p : Package) (l : Lent) (f : n < 2 ^ 64) (m : mentionPackage
   one-tlas t = go (eqb t (p .tlas)) refl
     where
       go : (b : Bool) → eqb t (p .tlas) ≡ b → tlas (buildTlas n p l) t ≡ tlasIf (elim b [ true ↦ some (p .dependencies) | false ↦ none ]) n (tlas l t)
-      go true q = rw (eqb-true t (p .tlas) q) (raised-same n (p .tlas) (l .tlases) (omega (arith, in-table)) f)
-      go false q = raised-other n (p .tlas) (l .tlases) t (eqb-false t (p .tlas) q)
+      go true q = rw (eqb-true t (p .tlas) q) (tlas-same n (p .tlas) (l .tlases) (omega (arith, in-table)) f)
+      go false q = tlas-other n (p .tlas) (l .tlases) t (eqb-false t (p .tlas) q)
 
   one-list : (t : ℕ) → dependenciesOf (buildTlas n p l) t ≡ Option·getD (listed t (p ∷ [])) (dependenciesOf l t)
   one-list t = go (eqb t (p .tlas)) refl
@@ -121,7 +121,7 @@ module _ (n : ℕ) (p : Package) (l : Lent) (f : n < 2 ^ 64) (m : mentionPackage
         cells = one-cell;
         pastCounts = λ i k. getD-set-other (l .dependencyCounts) (p .tlas) i (length (p .dependencies)) 0 (omega (arith, in-table));
         pastCells = λ i k. sets-past (p .dependencies) (l .dependencies) (p .tlas * 512) i (omega (arith, in-table));
-        tlasBytes = raised-length n (p .tlas) (l .tlases);
+        tlasBytes = tlas-length n (p .tlas) (l .tlases);
         countCells = length-set (l .dependencyCounts) (p .tlas) (length (p .dependencies));
         listCells = length-sets (l .dependencies) (p .tlas * 512) (p .dependencies);
         sound = sound-tlas n p l f m s h;

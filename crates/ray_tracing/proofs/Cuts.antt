@@ -3,13 +3,14 @@
 use Prim.Native.Nat.{ℕ, suc, _+_}
 use native.Mathlib.Omega.{arith}
 use mathlib.Core.Path.{_≡_, refl, sym, ap, _∙_}
+use mathlib.Core.Option.{none}
 use mathlib.Core.List.{List, [], _∷_, _++_, map, flatten}
 use lib.ListN.{length}
 use Rattle.ray_tracing.specs.Causes.{Cause}
-use Rattle.ray_tracing.specs.Submission.{Lent, Piece, Action, Answer, Outcome, accepted, refused, _leaving_, left, _then_, later, step, run, submission, decode}
-use Rattle.ray_tracing.specs.Claim.{Call, Sent, allSent, sendRefused, send, Cut}
+use Rattle.ray_tracing.specs.Submission.{Lent, Piece, Action, Answer, Outcome, accepted, refused, _leaving_, left, _then_, later, judge, step, run, submission, decode}
+use Rattle.ray_tracing.specs.Claim.{Call, Sent, allSent, sendRefused, send, Cut, Fits}
 use Rattle.ray_tracing.proofs.Firsts.{later-later, later-zero, later-then, then-then, then-ap}
-use Rattle.ray_tracing.proofs.Sound.{Sound, judged, sound-submission}
+use Rattle.ray_tracing.proofs.Sound.{Sound, sound, judged, sound-submission}
 
 -- a list in two parts: the second is run on what the first left
 pub run-append : (l : Lent) (xs ys : List Action) → run l (xs ++ ys) ≡ (run l xs then λ r. later (length xs) (run r ys))
@@ -33,6 +34,10 @@ submission-run l acts h = rw (judged l h)
 -- what a call leaves is again such a start
 pub sound-call : (l : Lent) (p : Piece) (r : Answer) (l′ : Lent) → Call l p r l′ → Sound l → Sound l′
 sound-call l p r l′ e h = rw (ap left e) (sound-submission l (decode p) h)
+
+-- in the words of the claim: no later start of a chain of calls is refused
+pub judge-kept : (l : Lent) (p : Piece) (r : Answer) (l′ : Lent) → Call l p r l′ → Fits l → judge l ≡ none → Fits l′ × (judge l′ ≡ none)
+judge-kept l p r l′ e f j = let h = sound-call l p r l′ e (sound l f j) in (h .fits, judged l′ h)
 
 sent-run : {l : Lent} {pieces : List Piece} {o : Outcome} → Sent l pieces o → Sound l → o ≡ run l (flatten (map decode pieces))
 unfolding flatten run

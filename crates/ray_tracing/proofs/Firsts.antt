@@ -42,7 +42,7 @@ pub inside-none : (n i : ℕ) → i < n → outside n i ≡ none
 unfolding refuse
 inside-none n i h = ap (λ (t : Bool). mentioned (refuse t 6 0)) (lt-leb n i h)
 
--- 4 is not drawn
+-- a count is within its limit where it is not refused
 pub within : (most n : ℕ) (c : Cause) → on (ltb most n) c ≡ none → n ≤ most
 within most n c e = ltb-false most n (on-none (ltb most n) c e)
 

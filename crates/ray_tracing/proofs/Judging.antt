@@ -16,7 +16,7 @@ use Rattle.ray_tracing.specs.Layout.{Seen, Field, fits, Layout, layout, 
 use Rattle.ray_tracing.specs.Records.{blasAt, tlasAt}
 use Rattle.ray_tracing.specs.Reading.{Judged, fine, refused, on, _or_, judgeField, judgeFields, judgeRecords, judgeLent, begin, byRecord}
 use Rattle.ray_tracing.specs.Submission.{blasIn, tlasIn, builtBlas, builtTlas}
-use Rattle.ray_tracing.proofs.Tables.{blasWith, tlasWith, built-length, built-before, built-past, built-same, raised-length, raised-before, raised-past, raised-same}
+use Rattle.ray_tracing.proofs.Tables.{blasWith, tlasWith, built-length, built-before, built-past, built-same, tlas-length, tlas-before, tlas-past, tlas-same}
 
 pub or-fine : (a b : Judged) → a or b ≡ fine → (a ≡ fine) × (b ≡ fine)
 or-fine fine b e = (refl, e)
@@ -160,16 +160,16 @@ module _ (n b : ℕ) (s : List ℕ) (f : n < 2 ^ 64) (l : b < length s / size 4)
       elim (ℕ-discrete j b) [
         | yes q ↦ rw q (
             tlas-judged c (builtTlas n b s) (b * size 4)
-            ∙ (λ i. tlas-fields (raised-length n b s i) (b * size 4) (raised-same n b s (omega arith) f i))
+            ∙ (λ i. tlas-fields (tlas-length n b s i) (b * size 4) (tlas-same n b s (omega arith) f i))
             ∙ tlas-kept (length s) (b * size 4) n (tlasAt s (b * size 4)) (sym (tlas-judged c s (b * size 4)) ∙ (rw q at e)))
-        | no d ↦ fields-cong (layout 4 .fields) c (builtTlas n b s) s (j * size 4) (raised-length n b s) (λ k m. bytes j d k m) ∙ e
+        | no d ↦ fields-cong (layout 4 .fields) c (builtTlas n b s) s (j * size 4) (tlas-length n b s) (λ k m. bytes j d k m) ∙ e
       ]
     where
       bytes : (j : ℕ) → ¬ (j ≡ b) → (k : ℕ) → k < size 4 → getD (builtTlas n b s) (j * size 4 + k) 0 ≡ getD s (j * size 4 + k) 0
       bytes j d k m =
           elim (decLt j b) [
-            | yes h ↦ raised-before n b s (j * size 4 + k) (omega arith)
-            | no h ↦ raised-past n b s (j * size 4 + k) (omega arith)
+            | yes h ↦ tlas-before n b s (j * size 4 + k) (omega arith)
+            | no h ↦ tlas-past n b s (j * size 4 + k) (omega arith)
           ]
 
 pub blases-kept : (n b w : ℕ) (s t : List ℕ) → n < 2 ^ 64 → b < length s / size 2
@@ -182,4 +182,4 @@ pub tlases-kept : (n i w : ℕ) (s t : List ℕ) → n < 2 ^ 64 → i < length s
     → judgeLent 4 (layout 4) w t s ≡ fine → judgeLent 4 (layout 4) w t (builtTlas n i s) ≡ fine
 unfolding judgeLent
 tlases-kept n i w s t f l e =
-    plain-kept 32 (layout 4 .fields) (begin w t false) s (builtTlas n i s) (raised-length n i s) (tlas-record n i s f l (begin w t false)) e
+    plain-kept 32 (layout 4 .fields) (begin w t false) s (builtTlas n i s) (tlas-length n i s) (tlas-record n i s f l (begin w t false)) e

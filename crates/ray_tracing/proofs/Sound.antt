@@ -18,7 +18,7 @@ use Rattle.ray_tracing.specs.Causes.{Cause, cause, bare}
 use Rattle.ray_tracing.specs.Submission.{Lent, Package, Action, build, useTlas, malformed, Outcome, accepted, refused, _leaving_, left, _then_, later, unless, on, _or_, first}
 use Rattle.ray_tracing.specs.Submission.{blasCount, tlasCount, blasIn, tlasIn, listIn, blas, tlas, dependenciesOf, mentionBlas, mentionTlas, mentionPackage, tooMany, compacted, tableCause}
 use Rattle.ray_tracing.specs.Submission.{judgeBlases, judgeTlases, judgeRoom, judgeList, judgeLists, judge, before, builtBlas, builtBlases, buildBlases, builtTlas, buildTlas, unnumbered, buildTlases, unusable, act, step, run, submission}
-use Rattle.ray_tracing.proofs.Tables.{built-length, raised-length, list-same, list-other}
+use Rattle.ray_tracing.proofs.Tables.{built-length, tlas-length, list-same, list-other}
 use Rattle.ray_tracing.proofs.Firsts.{or-none, none-or, on-none, outside, inside, within, within-none, left-later, left-unless, left-then}
 use Rattle.ray_tracing.proofs.Judging.{blases-kept, tlases-kept}
 
@@ -144,7 +144,7 @@ module _ (n : ℕ) (p : Package) (l : Lent) (f : n < 2 ^ 64) (m : mentionPackage
 
   pub sound-tlas : Sound (buildTlas n p l)
   sound-tlas =
-      let e = raised-length n (p .tlas) (l .tlases) in
+      let e = tlas-length n (p .tlas) (l .tlases) in
       record {
         fits = h .fits;
         blases = h .blases;
@@ -170,7 +170,7 @@ pub mention-built : (bs : List ℕ) (l : Lent) (ps : List Package) → first (me
 mention-built bs l ps h = mention-same l (buildBlases bs l) ps (blases-length (l .counter) bs (l .blases)) refl h
 
 pub mention-kept : (n : ℕ) (p : Package) (l : Lent) (ps : List Package) → first (mentionPackage l) ps ≡ none → first (mentionPackage (buildTlas n p l)) ps ≡ none
-mention-kept n p l ps h = mention-same l (buildTlas n p l) ps refl (raised-length n (p .tlas) (l .tlases)) h
+mention-kept n p l ps h = mention-same l (buildTlas n p l) ps refl (tlas-length n (p .tlas) (l .tlases)) h
 
 sound-tlases : (n : ℕ) (ps : List Package) (l : Lent) → n < 2 ^ 64 → first (λ p. on (ltb 512 (length (p .dependencies))) (bare 4)) ps ≡ none
     → first (mentionPackage l) ps ≡ none → Sound l → Sound (left (buildTlases n ps l))

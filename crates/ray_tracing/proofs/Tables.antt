@@ -113,29 +113,29 @@ tlasWith n r =
     }
 
 module _ (n i : ℕ) (t : List ℕ) where
-  pub raised-length : length (builtTlas n i t) ≡ length t
+  pub tlas-length : length (builtTlas n i t) ≡ length t
   unfolding builtTlas
-  raised-length = simp length-sets
+  tlas-length = simp length-sets
 
-  pub raised-before : (j : ℕ) → j < i * size 4 → getD (builtTlas n i t) j 0 ≡ getD t j 0
+  pub tlas-before : (j : ℕ) → j < i * size 4 → getD (builtTlas n i t) j 0 ≡ getD t j 0
   unfolding builtTlas
-  raised-before j h = sets-before (leBytes 8 n) t (i * size 4 + 14) j (omega arith)
+  tlas-before j h = sets-before (leBytes 8 n) t (i * size 4 + 14) j (omega arith)
 
-  pub raised-past : (j : ℕ) → i * size 4 + size 4 ≤ j → getD (builtTlas n i t) j 0 ≡ getD t j 0
+  pub tlas-past : (j : ℕ) → i * size 4 + size 4 ≤ j → getD (builtTlas n i t) j 0 ≡ getD t j 0
   unfolding builtTlas
-  raised-past j h = sets-past (leBytes 8 n) t (i * size 4 + 14) j (omega (arith, length-leBytes 8 n))
+  tlas-past j h = sets-past (leBytes 8 n) t (i * size 4 + 14) j (omega (arith, length-leBytes 8 n))
 
-  pub raised-other : (j : ℕ) → ¬ (j ≡ i) → tlasIn (builtTlas n i t) j ≡ tlasIn t j
+  pub tlas-other : (j : ℕ) → ¬ (j ≡ i) → tlasIn (builtTlas n i t) j ≡ tlasIn t j
   unfolding tlasIn
-  raised-other j d =
+  tlas-other j d =
       elim (decLt j i) [
-        | yes h ↦ tlas-cong (builtTlas n i t) t (j * size 4) (λ k l. raised-before (j * size 4 + k) (omega arith))
-        | no h ↦ tlas-cong (builtTlas n i t) t (j * size 4) (λ k l. raised-past (j * size 4 + k) (omega arith))
+        | yes h ↦ tlas-cong (builtTlas n i t) t (j * size 4) (λ k l. tlas-before (j * size 4 + k) (omega arith))
+        | no h ↦ tlas-cong (builtTlas n i t) t (j * size 4) (λ k l. tlas-past (j * size 4 + k) (omega arith))
       ]
 
-  pub raised-same : i * size 4 + size 4 ≤ length t → n < 2 ^ 64 → tlasIn (builtTlas n i t) i ≡ tlasWith n (tlasIn t i)
+  pub tlas-same : i * size 4 + size 4 ≤ length t → n < 2 ^ 64 → tlasIn (builtTlas n i t) i ≡ tlasWith n (tlasIn t i)
   unfolding tlasIn builtTlas
-  raised-same h k =
+  tlas-same h k =
       let at : ℕ = i * 22 in
       let m : List ℕ = leBytes 8 n in
       cc (

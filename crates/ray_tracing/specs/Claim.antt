@@ -43,7 +43,7 @@ abbrev pub Each : {A : Type 0} → (A → Type 0) → List A → Type 0
 Each P [] = Unit {0}
 Each P (x ∷ xs) = P x × Each P xs
 
--- by the history h of the start l, a plant b of t "has one not above it and isn't destroyed"
+-- by the history h of the start l, a Blas b that t lists "has one not above it and isn't destroyed"
 pub record UsableBlas (l : Lent) (h : List Built) (t b : ℕ) : Type 0 where
   pub numbered : ¬ (blasNumber l h b ≡ 0)
   pub notAbove : blasNumber l h b ≤ latest l h t .number
@@ -72,7 +72,7 @@ pub record Use (l : Lent) (x : Told) (t i : ℕ) (o : Outcome) : Type 0 where
 
 -- ---- the tables
 
--- what is left, r, is what the history h of the start l tells, in every byte and cell
+-- what is left, r, is what the history h of the start l tells: every record, every list and every cell
 pub record ByHistory (l : Lent) (h : List Built) (r : Lent) : Type 0 where
   pub counter : r .counter ≡ next l h
   -- each record has its number by the history, and a built Blas is Idle; its other fields are as at the start

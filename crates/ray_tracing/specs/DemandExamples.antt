@@ -11,7 +11,7 @@ use Rattle.ray_tracing.specs.Reading.{judgeFields, judgeRecords, judgeLe
 use Rattle.ray_tracing.specs.Causes.{Cause, cause, bare}
 use Rattle.ray_tracing.specs.Submission.{Lent, Piece, Package, Action, build, useTlas, malformed, Answer, accepted, refused, Outcome, _leaving_}
 use Rattle.ray_tracing.specs.Submission.{blasIn, tlasIn, listIn, judge, judgeLists, packagesAt, packagesLent, action, decodeCells, decode, before, builtBlas, builtBlases, builtTlas, buildTlases, act, step, run, submission}
-use Rattle.ray_tracing.specs.History.{Built, log, allowed, acts, tellAction, tellActions, history, since}
+use Rattle.ray_tracing.specs.History.{Built, latest, log, allowed, acts, tellAction, tellActions, history, since}
 use Rattle.ray_tracing.specs.Claim.{Cut}
 
 -- ---- bytes
@@ -145,7 +145,7 @@ pub numbered :
 unfolding judge judgeLent judgeRecords judgeFields judgeLists leAt leBytes blasIn tlasIn listIn refuse packagesAt packagesLent action decodeCells before builtBlas builtBlases builtTlas buildTlases act step run submission
 numbered = refl
 
--- the last sentence needs its premise: T0's starting number, 7, is above the counter, and B0, built later, is drawn all the same
+-- the last sentence needs its premise: T0's starting number, 7, is above the counter, and B0, built later, is used all the same
 pub no-premise :
     submission (lent 5 3 0 7 (0 ∷ []) 511) (decode (piece second-7 []))
     ≡ accepted leaving lent 6 5 0 7 (0 ∷ []) 511
@@ -159,7 +159,7 @@ pub listed-twice :
 unfolding judge judgeLent judgeRecords judgeFields judgeLists leAt leBytes blasIn tlasIn listIn refuse packagesAt packagesLent action decodeCells before builtBlas builtBlases builtTlas buildTlases act step run submission
 listed-twice = refl
 
--- a mark of a Tlas empties its list: a use then passes whatever its plants were
+-- a mark of a Tlas empties its list: a use then passes whatever it listed
 pub emptied :
     submission (lent 5 9 0 4 (0 ∷ 1 ∷ []) 510) (decode (piece (4 ∷ 0 ∷ 0 ∷ 0 ∷ 2 ∷ 0 ∷ 0 ∷ 0 ∷ []) []))
     ≡ accepted leaving record { counter = 6; blases = blasBytes 9 ++ blasBytes 0; tlases = tlasBytes 5; dependencyCounts = 0 ∷ []; dependencies = 0 ∷ 1 ∷ replicate 510 9 }
@@ -219,3 +219,18 @@ pub none-after-refused :
     ≡ []
 unfolding judge judgeLent judgeRecords judgeFields judgeLists leAt leBytes blasIn tlasIn listIn refuse packagesAt packagesLent action decodeCells allowed acts tellAction tellActions
 none-after-refused = refl
+
+-- a Blas that is Ready turns Idle when it is built
+pub turns-idle :
+    submission (single 9 (blasWith 2 0 5) 4) (decode (piece (3 ∷ 0 ∷ 0 ∷ 0 ∷ []) []))
+    ≡ accepted leaving single 10 (blasWith 0 0 9) 4
+unfolding judge judgeLent judgeRecords judgeFields judgeLists leAt leBytes blasIn tlasIn listIn refuse packagesAt packagesLent action decodeCells before builtBlas builtBlases builtTlas buildTlases act step run submission
+turns-idle = refl
+
+-- by the history a Tlas listed twice has the later list
+pub later-list :
+    latest (lent 5 0 0 0 [] 512)
+    (log (tellActions (lent 5 0 0 0 [] 512) [] (decode (piece (1 ∷ 0 ∷ 2 ∷ 2 ∷ []) (0 ∷ 1 ∷ 0 ∷ 2 ∷ 0 ∷ 1 ∷ 0 ∷ 1 ∷ 1 ∷ []))))) 0
+    ≡ record { number = 5; dependencies = 1 ∷ [] }
+unfolding judge judgeLent judgeRecords judgeFields judgeLists leAt leBytes blasIn tlasIn listIn refuse packagesAt packagesLent action decodeCells allowed acts tellAction tellActions
+later-list = refl

@@ -56,7 +56,7 @@ known l (e ∷ h) b = among b (e .blases) || known l h b
 
 -- ---- Tlases
 
--- a Tlas's number and its plants
+-- a Tlas's number and the Blases that it lists
 pub record Latest : Type 0 where
   pub number : ℕ
   pub dependencies : List ℕ
@@ -98,7 +98,7 @@ cell l (e ∷ h) t i = Option·getD (cellListed t i (e .tlases)) (cell l h t i)
 
 -- ---- "a use of a Tlas in the table by demand 3's rule"
 
--- a plant "has one not above it and isn't destroyed"
+-- a Blas that t lists "has one not above it and isn't destroyed"
 abbrev pub usableBlas : Lent → List Built → ℕ → ℕ → Bool
 usableBlas l h t b =
     not (eqb (blasNumber l h b) 0) && (leb (blasNumber l h b) (latest l h t .number) && not (eqb (blas l b .destroyed) 1))
