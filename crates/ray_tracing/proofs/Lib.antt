@@ -24,3 +24,4 @@ pub mod Words
 pub mod Demand3
 pub mod Decode
 pub mod Applied
+pub mod Plan
