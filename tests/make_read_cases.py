@@ -194,4 +194,5 @@ def main():
     print(f"{len(answers)} sheets; " + ", ".join(f"{numbers.count(n)} of {n}" for n in range(6)))
 
 
-main()
+if __name__ == "__main__":
+    main()
