@@ -206,9 +206,10 @@ pub fn append_instance(
         CheckedInstance::Fine => {
             if used <= instances.len() {
                 if 64 <= instances.len() - used {
+                    let end = used + 64;
                     let address = address_of(blases, instance.blas);
                     put_instance(instances, used, instance, address);
-                    return Appended::InUse(used + 64);
+                    return Appended::InUse(end);
                 }
             }
             Appended::Refused(BuildAccelerationStructureError::OutputTooShort)

@@ -111,7 +111,7 @@ unfoldable pub wordsAt : ℕ → List ℕ → ℕ → List ℕ
 wordsAt zero s at = []
 wordsAt (suc n) s at = leAt 4 s at ∷ wordsAt n s (at + 4)
 
--- "a slot's fields after its present byte": Blas, custom data, mask, twelve numbers
+-- a slot's fields after its present byte: Blas, custom data, mask, twelve numbers
 abbrev pub instanceFields : List Field
 instanceFields = drop 1 (slots .fields)
 
@@ -164,7 +164,7 @@ instanceRule tlas blas custom-data =
     refuse (leb (2 ^ 24) custom-data) 34
     (refuse (returnsVertices (tlas .flags) && not (returnsVertices (blas .flags))) 35 0)
 
--- with the mention of its Blas before: "6, 34, 35"
+-- with the mention of its Blas before: 6, 34, 35
 abbrev pub namedInstanceRule : Tlas → List ℕ → TlasInstance → ℕ
 namedInstanceRule tlas blases i =
     blasMention blases (i .blas .0) else instanceRule tlas (blasOf blases (i .blas .0)) (i .«custom_data»)
@@ -193,11 +193,11 @@ abbrev pub appendedOf : Appended → Appending
 appendedOf (appended.InUse n) = inUse n
 appendedOf (appended.Refused e) = refused (buildCause e)
 
--- "6 for the Tlas, then 6, 34, 35 for the instance"
+-- 6 for the Tlas, then 6, 34, 35 for the instance
 unfoldable pub namedTlasRule : List ℕ → List ℕ → TlasId → TlasInstance → ℕ
 namedTlasRule tlases blases tlas i = tlasMention tlases (tlas .0) else namedInstanceRule (tlasOf tlases (tlas .0)) blases i
 
--- "39 last (also where more is said to be in use than is lent)"
+-- "Last: 39": less than 64 bytes left, or more said to be in use than is lent
 abbrev pub roomRule : ℕ → ℕ → ℕ
 roomRule room used = refuse (ltb room (used + 64)) 39 0
 

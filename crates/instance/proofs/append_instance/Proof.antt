@@ -58,9 +58,9 @@ append-instance-spec =
     (λ c. search needs)
     (λ c. search needs)
     (λ c. search needs)
+    (λ c. search needs)
     address-of-requires
     put-instance-requires
-    (λ c. search needs)
     (λ c. search needs)
     returns
     returns-2
