@@ -5,3 +5,5 @@ pub mod Acting
 pub mod Turns
 pub mod Steps
 pub mod Start
+pub mod Lent
+pub mod Running

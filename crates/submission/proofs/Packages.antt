@@ -14,7 +14,7 @@ use borrow.Author.Tests.{le-leb, lt-leb, lt-ltb, le-ltb, leb-true}
 use Rattle.ray_tracing.specs.declared.ValidateAsActionsError.{ValidateAsActionsError}
 use Rattle.ray_tracing.specs.Causes.{Cause, bare}
 use Rattle.ray_tracing.specs.Submission.{Lent, Package, on, _or_, first, packageAt, pastPackage, packagesAt, packagesLent, tooMany, judgeList, judgeLists, mostDependencies}
-use Rattle.submission.specs.Outcome.{checkedOf}
+use Rattle.submission.specs.Outcome.{lentOf, checkedOf}
 use Rattle.submission.specs.declared.Checked.{Checked}
 use Rattle.submission.specs.declared.Checked.the-variants.{Fine, Refused}
 use Rattle.submission.proofs.Walks.{refusal, nothing}
@@ -112,3 +112,9 @@ module _ (l : Lent) (t n : ℕ) where
 
   pub lists-go-on : {o : Option Cause} {x : Checked} → t < n → judgeLists l t (n - t) ≡ o → checkedOf x ≡ judgeList l t → x ≡ Fine → judgeLists l (t + 1) (n - (t + 1)) ≡ o
   lists-go-on h inv p q = sym (lists-none h (nothing p q)) ∙ inv
+
+-- they look at the Blases and the lists
+pub lists-look : (m : ℕ) (b x c d : List ℕ) (n t : ℕ) → judgeLists (lentOf 0 b [] c d) t n ≡ judgeLists (lentOf m b x c d) t n
+unfolding judgeLists
+lists-look m b x c d zero t = refl
+lists-look m b x c d (suc n) t = ap (λ (o : Option Cause). judgeList (lentOf 0 b [] c d) t or o) (lists-look m b x c d n (t + 1))

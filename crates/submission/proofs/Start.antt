@@ -10,10 +10,12 @@ use Rattle.ray_tracing.specs.declared.Tlas.{Tlas}
 use Rattle.ray_tracing.specs.Layout.{Layout, layout, size, total}
 use Rattle.ray_tracing.specs.Reading as reading
 use Rattle.ray_tracing.specs.Mentions.{tlasOf}
-use Rattle.ray_tracing.specs.Causes.{Cause, cause}
-use Rattle.ray_tracing.specs.Submission.{Lent, tlas, tlasIn, blasCount, tlasCount, dependenciesOf, judge, first, unusableBlas, unusable, mostDependencies}
+use Rattle.ray_tracing.specs.Causes.{Cause, cause, bare}
+use Rattle.ray_tracing.specs.Submission.{Lent, tlas, tlasIn, blasCount, tlasCount, dependenciesOf, judge, first, unusableBlas, unusable, mostDependencies, tableCause, judgeRoom, on}
 use Rattle.ray_tracing.proofs.Reading.{or-fine, on-fine}
+use Rattle.ray_tracing.proofs.Firsts.{or-none, within}
 use Rattle.ray_tracing.proofs.Sound.{sound}
+use native.Mathlib.Omega.{arith}
 use Rattle.submission.specs.Known.{Inside, Room}
 use Rattle.submission.proofs.Judging.{ids-inside}
 
@@ -22,6 +24,20 @@ unfolding reading.judgeLent
 few-records k l w t s e =
     ltb-false (l .most) (length s / total (l .fields)) (on-fine (ltb (l .most) (length s / total (l .fields))) 4 0
     (or-fine (reading.on (ltb (l .most) (length s / total (l .fields))) (reading.refused 4 0)) _ e .0))
+
+table-none : (j : reading.Judged) → tableCause j ≡ none → j ≡ reading.fine
+table-none reading.fine e = refl
+table-none (reading.refused n p) e =
+    let z : _≡_ {A = ℕ} 0 1 = cc in
+    absurd (omega arith)
+
+pub few-of-table : (k : ℕ) (l : Layout) (w : ℕ) (t s : List ℕ) → tableCause (reading.judgeLent k l w t s) ≡ none → length s / total (l .fields) ≤ l .most
+few-of-table k l w t s e = few-records k l w t s (table-none (reading.judgeLent k l w t s) e)
+
+pub room-known : (l : Lent) → judgeRoom l ≡ none → Room (tlasCount l) (l .dependencyCounts) (l .dependencies)
+room-known l e =
+    let d = or-none (on (ltb (length (l .dependencyCounts)) (tlasCount l)) (bare 39)) _ e in
+    (within _ _ _ (d .0), within _ _ _ (d .1))
 
 pub record Ready (l : Lent) : Type 0 where
   pub few-blases : blasCount l ≤ 128

@@ -8,9 +8,10 @@ use native.Mathlib.Decide.{decLt}
 use native.Mathlib.Nat.{add-zero}
 use native.Mathlib.Omega.{arith}
 use lib.ListN.{length, getD, take, drop}
+use borrow.Author.Tests.{eq-eqb, ne-eqb}
 use Rattle.ray_tracing.specs.declared.ValidateAsActionsError.{ValidateAsActionsError}
 use Rattle.ray_tracing.specs.Causes.{Cause, bare, submissionCause}
-use Rattle.ray_tracing.specs.Submission.{Lent, Package, Action, build, useTlas, malformed, Outcome, accepted, refused, _leaving_, later, unless, blasCount, tlasCount, packagesAt, packagesLent, buildAt, mentionTlas, before, builtBlases, buildTlases, unusable, act, step}
+use Rattle.ray_tracing.specs.Submission.{Lent, Package, Action, build, useTlas, markBlas, markTlas, malformed, action, Outcome, accepted, refused, _leaving_, later, unless, blasCount, tlasCount, packagesAt, packagesLent, buildAt, mentionBlas, mentionTlas, before, builtBlases, buildTlases, unusable, act, step}
 use Rattle.submission.specs.Outcome.{lentOf, stepped, checkedOf, actedOf, submittedOf, outcomeOf}
 use Rattle.submission.specs.Known.{Inside, AllListed}
 use Rattle.submission.specs.declared.Checked.{Checked}
@@ -91,3 +92,43 @@ pub use-acts : (l : Lent) (t : ℕ) (x : Checked) → checkedOf x ≡ unusable l
 unfolding act
 use-acts l t Fine p = rw (← p)
 use-acts l t (Refused e) p = rw (← p)
+
+-- ---- a mark
+
+pub before-mark-blas : (l : Lent) (b : ℕ) {x : Checked} {e : ValidateAsActionsError} → checkedOf x ≡ mentionBlas l b → x ≡ Refused e → checkedOf x ≡ before l (markBlas b)
+unfolding before
+before-mark-blas l b p q = ap checkedOf q ∙ rw (refusal p q)
+
+pub before-mark-tlas : (l : Lent) (t : ℕ) {x : Checked} {e : ValidateAsActionsError} → checkedOf x ≡ mentionTlas l t → x ≡ Refused e → checkedOf x ≡ before l (markTlas t)
+unfolding before
+before-mark-tlas l t p q = ap checkedOf q ∙ rw (refusal p q)
+
+-- ---- an action by its kind
+
+module _ (lists : List ℕ) (kind o b t : ℕ) where
+  pub kind-build : kind ≡ 1 → action lists kind o b t ≡ buildAt lists o b t
+  unfolding action
+  kind-build e = rw (action, eq-eqb _ _ e)
+
+  module _ (n₁ : ¬ (kind ≡ 1)) where
+    pub kind-use : kind ≡ 2 → action lists kind o b t ≡ useTlas o
+    unfolding action
+    kind-use e = rw (action, ne-eqb _ _ n₁, eq-eqb _ _ e)
+
+    module _ (n₂ : ¬ (kind ≡ 2)) where
+      pub kind-mark-blas : kind ≡ 3 → action lists kind o b t ≡ markBlas o
+      unfolding action
+      kind-mark-blas e = rw (action, ne-eqb _ _ n₁, ne-eqb _ _ n₂, eq-eqb _ _ e)
+
+      module _ (n₃ : ¬ (kind ≡ 3)) where
+        pub kind-mark-tlas : kind ≡ 4 → action lists kind o b t ≡ markTlas o
+        unfolding action
+        kind-mark-tlas e = rw (action, ne-eqb _ _ n₁, ne-eqb _ _ n₂, ne-eqb _ _ n₃, eq-eqb _ _ e)
+
+        pub kind-none : ¬ (kind ≡ 4) → action lists kind o b t ≡ malformed
+        unfolding action
+        kind-none n₄ = rw (action, ne-eqb _ _ n₁, ne-eqb _ _ n₂, ne-eqb _ _ n₃, ne-eqb _ _ n₄)
+
+pub malformed-step : (l : Lent) (i : ℕ) {a : Action} → a ≡ malformed → refused i (bare 5) leaving l ≡ later i (step l a)
+unfolding step before
+malformed-step l i e = rw (e, add-zero)

@@ -1,7 +1,9 @@
 // `validate_acceleration_structure_actions`: a submission's actions over lent tables.
 use ray_tracing::Blas;
 use ray_tracing::BlasId;
+use ray_tracing::Judged;
 use ray_tracing::Mentioned;
+use ray_tracing::SheetError;
 use ray_tracing::Submitted;
 use ray_tracing::TlasId;
 use ray_tracing::ValidateAsActionsError;
@@ -9,17 +11,22 @@ use ray_tracing::blas_at;
 use ray_tracing::blas_mention;
 use ray_tracing::tlas_at;
 use ray_tracing::tlas_mention;
+use sheet::judge_lent;
 use wire::put_u8;
 use wire::put_u64;
 ghost use mathlib.Core.Path.{_≡_};
 ghost use mathlib.Core.Bool.{true};
 ghost use mathlib.Core.Option.{none};
 ghost use mathlib.Core.List.{[], _∷_};
-ghost use Prim.Native.Nat.{ℕ, _+_, _*_, _^_, _≤_, _<_};
+ghost use Prim.Native.Nat.{ℕ, _+_, _-_, _*_, _^_, _≤_, _<_};
 ghost use lib.ListN.{length, getD};
 ghost use lib.Seq.{sets};
+ghost use mathlib.Core.Logic.{_⊎_};
+ghost use Rattle.ray_tracing.specs.Layout.{layout, size};
+ghost use Rattle.ray_tracing.specs.Reading.{judgeLent};
+ghost use Rattle.ray_tracing.specs.Causes.{bare, sheetNumber, submissionCause};
 ghost use Rattle.ray_tracing.specs.Submission as Submission;
-ghost use Rattle.ray_tracing.specs.Submission.{Lent, blas, tlas, listIn, first, _or_, mentionBlas, mentionTlas, judgeList, judgeLists, judge, packageAt, pastPackage, packagesAt, packagesLent, buildAt, action, decode, later, tooMany, mentionPackage, compacted, before, builtBlas, builtBlases, builtTlas, unnumbered, buildTlases, unusableBlas, unusable, act, step, run, submission, build, useTlas};
+ghost use Rattle.ray_tracing.specs.Submission.{Lent, blas, tlas, listIn, tableCause, judgeRoom, first, _or_, mentionBlas, mentionTlas, judgeList, judgeLists, judge, packageAt, pastPackage, packagesAt, packagesLent, buildAt, action, decode, later, tooMany, mentionPackage, compacted, before, builtBlas, builtBlases, builtTlas, unnumbered, buildTlases, unusableBlas, unusable, act, step, submission, build, useTlas, markBlas, markTlas};
 ghost use Rattle.submission.specs.Outcome.{lentOf, pieceOf, tablesOf, blasesOf, packageOf, stepped, checkedOf, actedOf, submittedOf, outcomeOf};
 ghost use Rattle.submission.specs.Known.{blasesIn, tlasesIn, Inside, Room, Listed, AllListed};
 
@@ -583,5 +590,278 @@ fn use_action(
         use_tlas(blases, tlases, dependency_counts, dependencies, tlas),
         index,
         counter,
+    )
+}
+
+// Why a lent table is refused, as why a submission is.
+fn table_error(e: SheetError) -> ValidateAsActionsError
+    requires { ⌜ (sheetNumber e ≡ 4) ⊎ (sheetNumber e ≡ 5) ⌝ }
+    ensures { λ r. ⌜ submissionCause r ≡ bare (sheetNumber e) ⌝ }
+{
+    match e {
+        SheetError::TooMany => ValidateAsActionsError::TooMany,
+        _ => ValidateAsActionsError::InvalidValue,
+    }
+}
+
+// A table of the start, judged as in a build.
+fn judge_table(table: &[u8], section: usize) -> Checked
+    requires { ⌜ (0 < section) × (section < 10) ⌝ }
+    ensures { λ r. ⌜ checkedOf r ≡ tableCause (judgeLent section (layout section) (size (section - 1)) [] (now (table .entry))) ⌝ }
+{
+    match judge_lent(table, section, &table[..0]) {
+        Judged::Fine => Checked::Fine,
+        Judged::Refused(e, _) => Checked::Refused(table_error(e)),
+    }
+}
+
+// 39 unless each Tlas's list has room for 512.
+fn judge_room(tlases: &[u8], dependency_counts: &[u16], dependencies: &[u16]) -> Checked
+    requires { ⌜ tlasesIn (now tlases) ≤ 32 ⌝ }
+    ensures { λ r. ⌜ checkedOf r ≡ judgeRoom (lentOf 0 [] (now (tlases .entry)) (now («dependency_counts» .entry)) (now (dependencies .entry))) ⌝ }
+{
+    let tlas_count = tlases.len() / 22;
+    if dependency_counts.len() < tlas_count {
+        return Checked::Refused(ValidateAsActionsError::OutputTooShort);
+    }
+    if dependencies.len() < tlas_count * 512 {
+        return Checked::Refused(ValidateAsActionsError::OutputTooShort);
+    }
+    Checked::Fine
+}
+
+// The start, judged before all actions.
+fn judge_start(
+    blases: &[u8],
+    tlases: &[u8],
+    dependency_counts: &[u16],
+    dependencies: &[u16],
+) -> Checked
+    ensures { λ r. ⌜ ((n : ℕ) → checkedOf r ≡ judge (lentOf n (now (blases .entry)) (now (tlases .entry)) (now («dependency_counts» .entry)) (now (dependencies .entry)))) ⌝ }
+{
+    let first = judge_table(blases, 2);
+    if let Checked::Refused(_) = first {
+        return first;
+    }
+    let second = judge_table(tlases, 4);
+    if let Checked::Refused(_) = second {
+        return second;
+    }
+    let room = judge_room(tlases, dependency_counts, dependencies);
+    if let Checked::Refused(_) = room {
+        return room;
+    }
+    let tlas_count = (tlases.len() / 22) as u16;
+    judge_lists(blases, tlas_count, dependency_counts, dependencies)
+}
+
+// A mark is a Build whose Tlases list nothing: its lists stand in an array of its own.
+fn mark_blas_action(
+    counter: u64,
+    blases: &mut [u8],
+    tlases: &mut [u8],
+    dependency_counts: &mut [u16],
+    dependencies: &mut [u16],
+    operand: usize,
+    index: usize,
+) -> Submitted
+    requires { ⌜ judge (lentOf counter (now blases) (now tlases) (now «dependency_counts») (now dependencies)) ≡ none ⌝ }
+    ensures { λ r. ⌜ outcomeOf r (now (blases .exit)) (now (tlases .exit)) (now («dependency_counts» .exit)) (now (dependencies .exit))
+        ≡ later index (step (lentOf counter (now (blases .entry)) (now (tlases .entry)) (now («dependency_counts» .entry)) (now (dependencies .entry))) (markBlas operand)) ⌝ }
+{
+    let checked = judge_blas(&blases[..], operand);
+    if let Checked::Refused(_) = checked {
+        return submitted(checked, index, counter);
+    }
+    let lists = [operand as u16];
+    build_action(
+        counter,
+        blases,
+        tlases,
+        dependency_counts,
+        dependencies,
+        &lists,
+        0,
+        1,
+        0,
+        index,
+    )
+}
+
+fn mark_tlas_action(
+    counter: u64,
+    blases: &mut [u8],
+    tlases: &mut [u8],
+    dependency_counts: &mut [u16],
+    dependencies: &mut [u16],
+    operand: usize,
+    index: usize,
+) -> Submitted
+    requires { ⌜ judge (lentOf counter (now blases) (now tlases) (now «dependency_counts») (now dependencies)) ≡ none ⌝ }
+    ensures { λ r. ⌜ outcomeOf r (now (blases .exit)) (now (tlases .exit)) (now («dependency_counts» .exit)) (now (dependencies .exit))
+        ≡ later index (step (lentOf counter (now (blases .entry)) (now (tlases .entry)) (now («dependency_counts» .entry)) (now (dependencies .entry))) (markTlas operand)) ⌝ }
+{
+    let checked = judge_tlas(&tlases[..], operand);
+    if let Checked::Refused(_) = checked {
+        return submitted(checked, index, counter);
+    }
+    let lists = [operand as u16, 0];
+    build_action(
+        counter,
+        blases,
+        tlases,
+        dependency_counts,
+        dependencies,
+        &lists,
+        0,
+        0,
+        1,
+        index,
+    )
+}
+
+// One action, as action `index`.
+fn step(
+    counter: u64,
+    blases: &mut [u8],
+    tlases: &mut [u8],
+    dependency_counts: &mut [u16],
+    dependencies: &mut [u16],
+    lists: &[u16],
+    kind: u32,
+    operand: u32,
+    blas_count: u32,
+    tlas_count: u32,
+    index: usize,
+) -> Submitted
+    requires { ⌜ judge (lentOf counter (now blases) (now tlases) (now «dependency_counts») (now dependencies)) ≡ none ⌝ }
+    ensures { λ r. ⌜ outcomeOf r (now (blases .exit)) (now (tlases .exit)) (now («dependency_counts» .exit)) (now (dependencies .exit))
+        ≡ later index (Submission.step (lentOf counter (now (blases .entry)) (now (tlases .entry)) (now («dependency_counts» .entry)) (now (dependencies .entry))) (action (now (lists .entry)) kind operand «blas_count» «tlas_count»)) ⌝ }
+{
+    let id = operand as usize;
+    if kind == 1 {
+        return build_action(
+            counter,
+            blases,
+            tlases,
+            dependency_counts,
+            dependencies,
+            lists,
+            id,
+            blas_count as usize,
+            tlas_count as usize,
+            index,
+        );
+    }
+    if kind == 2 {
+        return use_action(
+            counter,
+            &blases[..],
+            &tlases[..],
+            &dependency_counts[..],
+            &dependencies[..],
+            id,
+            index,
+        );
+    }
+    if kind == 3 {
+        return mark_blas_action(
+            counter,
+            blases,
+            tlases,
+            dependency_counts,
+            dependencies,
+            id,
+            index,
+        );
+    }
+    if kind == 4 {
+        return mark_tlas_action(
+            counter,
+            blases,
+            tlases,
+            dependency_counts,
+            dependencies,
+            id,
+            index,
+        );
+    }
+    Submitted::Refused(ValidateAsActionsError::InvalidValue, index, counter)
+}
+
+// The actions in turn, to the first that is refused.
+fn run(
+    counter: u64,
+    blases: &mut [u8],
+    tlases: &mut [u8],
+    dependency_counts: &mut [u16],
+    dependencies: &mut [u16],
+    actions: &[u32],
+    lists: &[u16],
+) -> Submitted
+    requires { ⌜ judge (lentOf counter (now blases) (now tlases) (now «dependency_counts») (now dependencies)) ≡ none ⌝ }
+    ensures { λ r. ⌜ outcomeOf r (now (blases .exit)) (now (tlases .exit)) (now («dependency_counts» .exit)) (now (dependencies .exit))
+        ≡ Submission.run (lentOf counter (now (blases .entry)) (now (tlases .entry)) (now («dependency_counts» .entry)) (now (dependencies .entry))) (decode (pieceOf (now (actions .entry)) (now (lists .entry)))) ⌝ }
+{
+    let mut number = counter;
+    let mut at = 0;
+    let mut index = 0;
+    while at < actions.len() {
+        if actions.len() - at < 4 {
+            return Submitted::Refused(ValidateAsActionsError::InvalidValue, index, number);
+        }
+        let submitted = step(
+            number,
+            blases,
+            tlases,
+            dependency_counts,
+            dependencies,
+            lists,
+            actions[at],
+            actions[at + 1],
+            actions[at + 2],
+            actions[at + 3],
+            index,
+        );
+        let Submitted::Accepted(next) = submitted else {
+            return submitted;
+        };
+        number = next;
+        at += 4;
+        index += 1;
+    }
+    Submitted::Accepted(number)
+}
+
+// A submission: the start is judged, then the actions in turn.
+pub fn submit(
+    counter: u64,
+    blases: &mut [u8],
+    tlases: &mut [u8],
+    dependency_counts: &mut [u16],
+    dependencies: &mut [u16],
+    actions: &[u32],
+    lists: &[u16],
+) -> Submitted
+    ensures { λ r. ⌜ outcomeOf r (now (blases .exit)) (now (tlases .exit)) (now («dependency_counts» .exit)) (now (dependencies .exit))
+        ≡ submission (lentOf counter (now (blases .entry)) (now (tlases .entry)) (now («dependency_counts» .entry)) (now (dependencies .entry))) (decode (pieceOf (now (actions .entry)) (now (lists .entry)))) ⌝ }
+{
+    let checked = judge_start(
+        &blases[..],
+        &tlases[..],
+        &dependency_counts[..],
+        &dependencies[..],
+    );
+    if let Checked::Refused(_) = checked {
+        return submitted(checked, 0, counter);
+    }
+    run(
+        counter,
+        blases,
+        tlases,
+        dependency_counts,
+        dependencies,
+        actions,
+        lists,
     )
 }
