@@ -10,10 +10,11 @@ use Rattle.ray_tracing.specs.declared.Submitted.{Submitted}
 use Rattle.ray_tracing.specs.declared.Submitted.the-variants as submitted
 use Rattle.ray_tracing.specs.declared.ValidateAsActionsError.{ValidateAsActionsError}
 use Rattle.ray_tracing.specs.Causes.{Cause, bare, submissionCause}
-use Rattle.ray_tracing.specs.Submission.{Lent, Action, malformed, decodeCells, Outcome, accepted, refused, _leaving_, left, _then_, later, judge, step, run, submission}
+use Rattle.ray_tracing.specs.Submission.{Lent, Action, malformed, decodeCells, Outcome, accepted, refused, _leaving_, left, _then_, later, judge, step, run, submission, answerNumbers}
 use Rattle.ray_tracing.proofs.Firsts.{later-then, later-later, later-zero, left-later}
 use Rattle.ray_tracing.proofs.Sound.{Sound, judged, sound-submission}
-use Rattle.submission.specs.Outcome.{lentOf, checkedOf, submittedOf, outcomeOf}
+use Rattle.submission.specs.Outcome.{lentOf, checkedOf, submittedOf, answerOf, counterOf, outcomeOf, told, numbersOf, toldOf}
+use Rattle.submission.specs.declared.Validated.{Validated}
 use Rattle.submission.specs.declared.Checked.{Checked}
 use Rattle.submission.specs.declared.Checked.the-variants.{Fine, Refused}
 use Rattle.submission.proofs.Walks.{refusal}
@@ -77,3 +78,9 @@ submission-refused l acts p q = rw (q, refusal p q)
 pub submission-runs : (l : Lent) (acts : List Action) {o : Outcome} → judge l ≡ none → o ≡ run l acts → o ≡ submission l acts
 unfolding submission
 submission-runs l acts p q = rw p q
+
+-- ---- by the paper's numbers
+
+pub told-is : (x : Submitted) (v : Validated) (b t c d : List ℕ) {o : Outcome} → numbersOf v ≡ answerNumbers (answerOf x) → v .counter ≡ counterOf x → outcomeOf x b t c d ≡ o
+    → toldOf v b t c d ≡ told o
+told-is x v b t c d p q e = (λ i. record { numbers = p i; left = lentOf (q i) b t c d }) ∙ ap told e

@@ -4,10 +4,12 @@ use mathlib.Core.Option.{Option, none, some}
 use mathlib.Core.List.{List, []}
 use Rattle.ray_tracing.specs.declared.Submitted.{Submitted}
 use Rattle.ray_tracing.specs.declared.Submitted.the-variants as submitted
-use Rattle.ray_tracing.specs.Causes.{Cause, submissionCause}
-use Rattle.ray_tracing.specs.Submission.{Lent, Piece, Package, Answer, accepted, refused, Outcome, _leaving_}
+use Rattle.ray_tracing.specs.Causes.{Cause, cause, submissionCause}
+use Rattle.ray_tracing.specs.Submission.{Lent, Piece, Package, Answer, accepted, refused, Outcome, _leaving_, Numbers, answerNumbers}
 use Rattle.submission.specs.declared.Checked.{Checked}
 use Rattle.submission.specs.declared.Checked.the-variants as checked
+use Rattle.submission.specs.declared.ErrorNumbers.{ErrorNumbers}
+use Rattle.submission.specs.declared.Validated.{Validated}
 
 abbrev pub lentOf : ℕ → List ℕ → List ℕ → List ℕ → List ℕ → Lent
 lentOf n b t c d = record { counter = n; blases = b; tlases = t; dependencyCounts = c; dependencies = d }
@@ -55,3 +57,23 @@ counterOf (submitted.Refused e i n) = n
 -- a submission's answer, and what it leaves
 abbrev pub outcomeOf : Submitted → List ℕ → List ℕ → List ℕ → List ℕ → Outcome
 outcomeOf s b t c d = answerOf s leaving lentOf (counterOf s) b t c d
+
+-- ---- by the paper's numbers
+
+-- a cause's number and its first two figures; a submission's causes have no third
+abbrev pub causeOf : ErrorNumbers → Cause
+causeOf e = cause (e .number) (e .first) (e .second) 0
+
+-- what a caller is told, and what is left
+pub record Told : Type 0 where
+  pub numbers : Numbers
+  pub left : Lent
+
+abbrev pub told : Outcome → Told
+told (a leaving l) = record { numbers = answerNumbers a; left = l }
+
+abbrev pub numbersOf : Validated → Numbers
+numbersOf v = record { number = v .number; action = v .action; first = v .first; second = v .second }
+
+abbrev pub toldOf : Validated → List ℕ → List ℕ → List ℕ → List ℕ → Told
+toldOf v b t c d = record { numbers = numbersOf v; left = lentOf (v .counter) b t c d }

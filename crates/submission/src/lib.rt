@@ -24,10 +24,10 @@ ghost use lib.Seq.{sets};
 ghost use mathlib.Core.Logic.{_⊎_};
 ghost use Rattle.ray_tracing.specs.Layout.{layout, size};
 ghost use Rattle.ray_tracing.specs.Reading.{judgeLent};
-ghost use Rattle.ray_tracing.specs.Causes.{bare, sheetNumber, submissionCause};
+ghost use Rattle.ray_tracing.specs.Causes.{cause, bare, sheetNumber, submissionCause};
 ghost use Rattle.ray_tracing.specs.Submission as Submission;
-ghost use Rattle.ray_tracing.specs.Submission.{Lent, blas, tlas, listIn, tableCause, judgeRoom, first, _or_, mentionBlas, mentionTlas, judgeList, judgeLists, judge, packageAt, pastPackage, packagesAt, packagesLent, buildAt, action, decode, later, tooMany, mentionPackage, compacted, before, builtBlas, builtBlases, builtTlas, unnumbered, buildTlases, unusableBlas, unusable, act, step, submission, build, useTlas, markBlas, markTlas};
-ghost use Rattle.submission.specs.Outcome.{lentOf, pieceOf, tablesOf, blasesOf, packageOf, stepped, checkedOf, actedOf, submittedOf, outcomeOf};
+ghost use Rattle.ray_tracing.specs.Submission.{Lent, blas, tlas, listIn, tableCause, judgeRoom, first, _or_, mentionBlas, mentionTlas, judgeList, judgeLists, judge, packageAt, pastPackage, packagesAt, packagesLent, buildAt, action, decode, later, tooMany, mentionPackage, compacted, before, builtBlas, builtBlases, builtTlas, unnumbered, buildTlases, unusableBlas, unusable, act, step, submission, build, useTlas, markBlas, markTlas, answerNumbers};
+ghost use Rattle.submission.specs.Outcome.{lentOf, pieceOf, tablesOf, blasesOf, packageOf, stepped, checkedOf, actedOf, submittedOf, answerOf, counterOf, outcomeOf, causeOf, told, numbersOf, toldOf};
 ghost use Rattle.submission.specs.Known.{blasesIn, tlasesIn, Inside, Room, Listed, AllListed};
 
 // What judging finds: nothing to refuse, or the first refusal.
@@ -864,4 +864,139 @@ pub fn submit(
         actions,
         lists,
     )
+}
+
+// The counter of Builds steps where it lies; the submission index never moves.
+#[repr(C)]
+pub struct CommandIndices {
+    pub active_submission_index: u64,
+    pub next_acceleration_structure_build_command_index: u64,
+}
+
+// What a submission came to, by the paper's numbers: number, action and two figures, 0 where it was accepted; and the counter.
+#[repr(C)]
+pub struct Validated {
+    pub number: u64,
+    pub action: u64,
+    pub first: u64,
+    pub second: u64,
+    pub counter: u64,
+}
+
+struct ErrorNumbers {
+    number: u64,
+    first: u64,
+    second: u64,
+}
+
+fn error_numbers(number: u64, first: u64, second: u64) -> ErrorNumbers
+    ensures { λ r. ⌜ causeOf r ≡ cause number first second 0 ⌝ }
+{
+    ErrorNumbers {
+        number,
+        first,
+        second,
+    }
+}
+
+fn numbers_of(e: ValidateAsActionsError) -> ErrorNumbers
+    ensures { λ r. ⌜ causeOf r ≡ submissionCause e ⌝ }
+{
+    match e {
+        ValidateAsActionsError::TooMany => error_numbers(4, 0, 0),
+        ValidateAsActionsError::InvalidValue => error_numbers(5, 0, 0),
+        ValidateAsActionsError::InvalidResource => error_numbers(6, 0, 0),
+        ValidateAsActionsError::DestroyedResource(b) => error_numbers(21, b.0 as u64, 0),
+        ValidateAsActionsError::OutputTooShort => error_numbers(39, 0, 0),
+        ValidateAsActionsError::CounterExhausted => error_numbers(40, 0, 0),
+        ValidateAsActionsError::CompactedBlas(b) => error_numbers(41, b.0 as u64, 0),
+        ValidateAsActionsError::UsedUnbuiltBlas(b, t) => error_numbers(42, b.0 as u64, t.0 as u64),
+        ValidateAsActionsError::UsedTlasOfUnbuiltBlas(t, b) => error_numbers(
+            42,
+            t.0 as u64,
+            b.0 as u64,
+        ),
+        ValidateAsActionsError::UsedUnbuiltTlas(t) => error_numbers(43, t.0 as u64, 0),
+        ValidateAsActionsError::BlasNewerThenTlas(b, t) => error_numbers(
+            44,
+            b.0 as u64,
+            t.0 as u64,
+        ),
+    }
+}
+
+fn answered(answer: Submitted) -> Validated
+    ensures { λ r. ⌜ (numbersOf r ≡ answerNumbers (answerOf answer)) × (r .counter ≡ counterOf answer) ⌝ }
+{
+    match answer {
+        Submitted::Accepted(counter) => Validated {
+            number: 0,
+            action: 0,
+            first: 0,
+            second: 0,
+            counter,
+        },
+        Submitted::Refused(e, action, counter) => {
+            let numbers = numbers_of(e);
+            Validated {
+                number: numbers.number,
+                action: action as u64,
+                first: numbers.first,
+                second: numbers.second,
+                counter,
+            }
+        }
+    }
+}
+
+// `submit`, answered by numbers.
+pub fn submit_numbers(
+    counter: u64,
+    blases: &mut [u8],
+    tlases: &mut [u8],
+    dependency_counts: &mut [u16],
+    dependencies: &mut [u16],
+    actions: &[u32],
+    lists: &[u16],
+) -> Validated
+    ensures { λ r. ⌜ toldOf r (now (blases .exit)) (now (tlases .exit)) (now («dependency_counts» .exit)) (now (dependencies .exit))
+        ≡ told (submission (lentOf counter (now (blases .entry)) (now (tlases .entry)) (now («dependency_counts» .entry)) (now (dependencies .entry))) (decode (pieceOf (now (actions .entry)) (now (lists .entry))))) ⌝ }
+{
+    answered(submit(
+        counter,
+        blases,
+        tlases,
+        dependency_counts,
+        dependencies,
+        actions,
+        lists,
+    ))
+}
+
+pub fn validate_acceleration_structure_actions(
+    indices: &mut CommandIndices,
+    blases: &mut [u8],
+    tlases: &mut [u8],
+    dependency_counts: &mut [u16],
+    dependencies: &mut [u16],
+    actions: &[u32],
+    lists: &[u16],
+) -> Validated
+    ensures { λ r. ⌜ (toldOf r (now (blases .exit)) (now (tlases .exit)) (now («dependency_counts» .exit)) (now (dependencies .exit))
+        ≡ told (submission (lentOf (now (indices .entry) .«next_acceleration_structure_build_command_index») (now (blases .entry)) (now (tlases .entry)) (now («dependency_counts» .entry)) (now (dependencies .entry))) (decode (pieceOf (now (actions .entry)) (now (lists .entry))))))
+        × (now (indices .exit) .«next_acceleration_structure_build_command_index» ≡ r .counter)
+        × (now (indices .exit) .«active_submission_index» ≡ now (indices .entry) .«active_submission_index») ⌝ }
+{
+    let counter = indices.next_acceleration_structure_build_command_index;
+    let s = submit_numbers(
+        counter,
+        blases,
+        tlases,
+        dependency_counts,
+        dependencies,
+        actions,
+        lists,
+    );
+    indices.next_acceleration_structure_build_command_index = s.counter;
+    s
 }
