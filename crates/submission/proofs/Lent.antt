@@ -18,6 +18,7 @@ use Rattle.ray_tracing.specs.declared.Judged as ray
 use Rattle.ray_tracing.specs.declared.Judged.the-variants as judged
 use Rattle.ray_tracing.specs.Causes.{Cause, bare, sheetNumber, judgedOf}
 use Rattle.ray_tracing.specs.Submission.{tableCause}
+use Rattle.actions.proofs.Start.{few-records}
 
 -- nothing but 5
 abbrev Value : Judged → Type 0
@@ -102,6 +103,15 @@ lent-tabular k l w t s = go (ltb (l .most) n) (addsUp k t n) refl
         (last (not (eqb (length s % total (l .fields)) 0)))
 
 -- ---- as a cause of a submission
+
+table-none : (j : Judged) → tableCause j ≡ none → j ≡ fine
+table-none fine e = refl
+table-none (refused n p) e =
+    let z : _≡_ {A = ℕ} 0 1 = cc in
+    absurd (omega arith)
+
+pub few-of-table : (k : ℕ) (l : Layout) (w : ℕ) (t s : List ℕ) → tableCause (judgeLent k l w t s) ≡ none → length s / total (l .fields) ≤ l .most
+few-of-table k l w t s e = few-records k l w t s (table-none (judgeLent k l w t s) e)
 
 module _ {x : ray.Judged} {j : Judged} (p : judgedOf x ≡ j) where
   pub table-fine : x ≡ judged.Fine → none ≡ tableCause j

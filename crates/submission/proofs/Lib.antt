@@ -1,9 +1,4 @@
-pub mod Walks
-pub mod Packages
-pub mod Judging
-pub mod Acting
-pub mod Turns
-pub mod Steps
-pub mod Start
+pub mod Lists
 pub mod Lent
+pub mod ByKind
 pub mod Running

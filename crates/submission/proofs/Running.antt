@@ -13,12 +13,13 @@ use Rattle.ray_tracing.specs.Causes.{Cause, bare, submissionCause}
 use Rattle.ray_tracing.specs.Submission.{Lent, Action, malformed, decodeCells, Outcome, accepted, refused, _leaving_, left, _then_, later, judge, step, run, submission, answerNumbers}
 use Rattle.ray_tracing.proofs.Firsts.{later-then, later-later, later-zero, left-later}
 use Rattle.ray_tracing.proofs.Sound.{Sound, judged, sound-submission}
-use Rattle.submission.specs.Outcome.{lentOf, checkedOf, submittedOf, answerOf, counterOf, outcomeOf, told, numbersOf, toldOf}
+use Rattle.actions.specs.Outcome.{lentOf, checkedOf, submittedOf, answerOf, counterOf, outcomeOf}
+use Rattle.submission.specs.Numbers.{told, numbersOf, toldOf}
 use Rattle.submission.specs.declared.Validated.{Validated}
-use Rattle.submission.specs.declared.Checked.{Checked}
-use Rattle.submission.specs.declared.Checked.the-variants.{Fine, Refused}
-use Rattle.submission.proofs.Walks.{refusal}
-use Rattle.submission.proofs.Steps.{malformed-step}
+use Rattle.actions.specs.declared.Checked.{Checked}
+use Rattle.actions.specs.declared.Checked.the-variants.{Fine, Refused}
+use Rattle.actions.proofs.Walks.{refusal}
+use Rattle.submission.proofs.ByKind.{malformed-step}
 
 pub record Running (n₀ : ℕ) (b₀ t₀ c₀ d₀ actions lists : List ℕ) (number : ℕ) (b t c d : List ℕ) (at index : ℕ) : Type 0 where
   pub sound : Sound (lentOf number b t c d)

@@ -7,7 +7,7 @@ use Rattle.submission.proofs.judge_list.Statement.{statement}
 use Rattle.submission.proofs.judge_list.Tie as tie
 use Rattle.submission.proofs.judge_list.Reads as reads
 use Rattle.submission.proofs.judge_list.Lts as lts
-use Rattle.submission.proofs.judge_ids.Reads as judge-ids-reads
+use Rattle.actions.proofs.judge_ids.Reads as judge-ids-reads
 
 -- src/lib.rt:70:13
 cast-t : tie.Need-cast-t

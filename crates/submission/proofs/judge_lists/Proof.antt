@@ -1,6 +1,6 @@
 use native.Mathlib.Nat.{sub-zero}
-use Rattle.submission.proofs.Packages.{lists-stop, lists-go-on, lists-done}
-use Rattle.submission.specs.Outcome.{lentOf}
+use Rattle.submission.proofs.Lists.{lists-stop, lists-go-on, lists-done}
+use Rattle.actions.specs.Outcome.{lentOf}
 use Rattle.ray_tracing.specs.Submission.{judgeLists}
 use mathlib.Core.List.{[]}
 use native.Mathlib.Omega.{arith}

@@ -1,7 +1,8 @@
-use Rattle.submission.proofs.Walks.{nothing, or-stop, or-pass}
-use Rattle.submission.proofs.Packages.{lists-look}
-use Rattle.submission.proofs.Start.{few-of-table, room-known}
-use Rattle.submission.specs.Outcome.{lentOf}
+use Rattle.actions.proofs.Walks.{nothing, or-stop, or-pass}
+use Rattle.submission.proofs.Lists.{lists-look}
+use Rattle.submission.proofs.Lent.{few-of-table}
+use Rattle.submission.proofs.Lists.{room-known}
+use Rattle.actions.specs.Outcome.{lentOf}
 use Rattle.ray_tracing.specs.Layout.{layout, size}
 use Rattle.ray_tracing.specs.Submission.{judge}
 use mathlib.Core.List.{[]}

@@ -1,9 +1,10 @@
 use Rattle.ray_tracing.specs.Submission.{packagesAt, packagesLent}
-use Rattle.submission.proofs.Walks.{nothing}
-use Rattle.submission.proofs.Steps.{step-refused, before-mark-tlas}
-use Rattle.submission.proofs.Start.{ready}
-use Rattle.submission.specs.Outcome.{lentOf}
-use Rattle.submission.specs.Known.{tlasesIn}
+use Rattle.actions.proofs.Walks.{nothing}
+use Rattle.actions.proofs.Steps.{step-refused}
+use Rattle.submission.proofs.ByKind.{before-mark-tlas}
+use Rattle.actions.proofs.Start.{ready}
+use Rattle.actions.specs.Outcome.{lentOf}
+use Rattle.actions.specs.Known.{tlasesIn}
 use Rattle.ray_tracing.specs.Submission.{markTlas}
 use Rattle.ray_tracing.proofs.Firsts.{inside}
 use native.Mathlib.Omega.{arith}
@@ -12,9 +13,9 @@ use Rattle.submission.proofs.mark_tlas_action.Statement.{statement}
 use Rattle.submission.proofs.mark_tlas_action.Tie as tie
 use Rattle.submission.proofs.mark_tlas_action.Reads as reads
 use Rattle.submission.proofs.mark_tlas_action.Lts as lts
-use Rattle.submission.proofs.build_action.Reads as build-action-reads
-use Rattle.submission.proofs.judge_tlas.Reads as judge-tlas-reads
-use Rattle.submission.proofs.submitted.Reads as submitted-reads
+use Rattle.actions.proofs.build_action.Reads as build-action-reads
+use Rattle.actions.proofs.judge_tlas.Reads as judge-tlas-reads
+use Rattle.actions.proofs.submitted.Reads as submitted-reads
 
 -- src/lib.rt:688:9
 judge-tlas-requires : tie.Need-judge-tlas-requires

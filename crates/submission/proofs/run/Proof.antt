@@ -1,5 +1,5 @@
 use Rattle.submission.proofs.Running.{Running, run-stop, run-go-on, run-sound, run-part, run-done}
-use Rattle.submission.specs.Outcome.{lentOf}
+use Rattle.actions.specs.Outcome.{lentOf}
 use Rattle.ray_tracing.specs.Submission as Submission
 use Rattle.ray_tracing.proofs.Sound.{sound, judged}
 use Rattle.ray_tracing.proofs.Firsts.{later-zero}

@@ -1,13 +1,13 @@
-use Rattle.submission.proofs.Steps.{kind-build, kind-use, kind-mark-blas, kind-mark-tlas, kind-none, malformed-step}
+use Rattle.submission.proofs.ByKind.{kind-build, kind-use, kind-mark-blas, kind-mark-tlas, kind-none, malformed-step}
 use borrow.Author.Needs.{needs}
 use Rattle.submission.proofs.step.Statement.{statement}
 use Rattle.submission.proofs.step.Tie as tie
 use Rattle.submission.proofs.step.Reads as reads
 use Rattle.submission.proofs.step.Lts as lts
-use Rattle.submission.proofs.build_action.Reads as build-action-reads
+use Rattle.actions.proofs.build_action.Reads as build-action-reads
 use Rattle.submission.proofs.mark_blas_action.Reads as mark-blas-action-reads
 use Rattle.submission.proofs.mark_tlas_action.Reads as mark-tlas-action-reads
-use Rattle.submission.proofs.use_action.Reads as use-action-reads
+use Rattle.actions.proofs.use_action.Reads as use-action-reads
 
 -- src/lib.rt:716:9
 build-action-requires : tie.Need-build-action-requires

@@ -1,6 +1,6 @@
-use Rattle.submission.proofs.Walks.{nothing}
+use Rattle.actions.proofs.Walks.{nothing}
 use Rattle.submission.proofs.Running.{submission-refused, submission-runs}
-use Rattle.submission.specs.Outcome.{lentOf}
+use Rattle.actions.specs.Outcome.{lentOf}
 use borrow.Author.Needs.{needs}
 use Rattle.submission.proofs.submit.Statement.{statement}
 use Rattle.submission.proofs.submit.Tie as tie
@@ -8,7 +8,7 @@ use Rattle.submission.proofs.submit.Reads as reads
 use Rattle.submission.proofs.submit.Lts as lts
 use Rattle.submission.proofs.judge_start.Reads as judge-start-reads
 use Rattle.submission.proofs.run.Reads as run-reads
-use Rattle.submission.proofs.submitted.Reads as submitted-reads
+use Rattle.actions.proofs.submitted.Reads as submitted-reads
 
 -- src/lib.rt:775:9
 judge-start-requires : tie.Need-judge-start-requires

@@ -42,7 +42,8 @@ use denote.Triple.Table.{entered, cited}
 use denote.Triple.Walked.{says, needs, Stays, stay-ref, stay-none, gave-slice, stay-none-slice, walkOf, AllGo, goes-ref, goes-none, goes-gave-slice, goes-none-slice, Walks, ends-at, walked, walk-meets}
 use denote.Exit.{yes}
 use Rattle.ray_tracing.specs.Submission.{submission, decode}
-use Rattle.submission.specs.Outcome.{lentOf, pieceOf, told, toldOf}
+use Rattle.actions.specs.Outcome.{lentOf}
+use Rattle.submission.specs.Numbers.{pieceOf, told, toldOf}
 use Rattle.submission.specs.declared.CommandIndices.{CommandIndices}
 use Rattle.submission.specs.declared.Validated.{Validated}
 use Rattle.submission.proofs.CommandIndices as T
