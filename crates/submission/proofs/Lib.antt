@@ -2,3 +2,4 @@ pub mod Lists
 pub mod Lent
 pub mod ByKind
 pub mod Running
+pub mod Demand
