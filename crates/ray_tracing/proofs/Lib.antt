@@ -25,3 +25,4 @@ pub mod Demand3
 pub mod Decode
 pub mod Applied
 pub mod Plan
+pub mod Lent

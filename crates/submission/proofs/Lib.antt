@@ -1,5 +1,5 @@
+pub mod Start
 pub mod Lists
-pub mod Lent
 pub mod ByKind
 pub mod Running
 pub mod Demand

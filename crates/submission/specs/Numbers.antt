@@ -1,18 +1,12 @@
 -- What a submission comes to, by the paper's numbers. Assumes nothing.
 use Prim.Native.Nat.{ℕ}
 use mathlib.Core.List.{List}
-use Rattle.ray_tracing.specs.Causes.{Cause, cause}
 use Rattle.ray_tracing.specs.Submission.{Lent, Piece, Outcome, _leaving_, Numbers, answerNumbers}
 use Rattle.actions.specs.Outcome.{lentOf}
-use Rattle.submission.specs.declared.ErrorNumbers.{ErrorNumbers}
 use Rattle.submission.specs.declared.Validated.{Validated}
 
 abbrev pub pieceOf : List ℕ → List ℕ → Piece
 pieceOf actions lists = record { actions = actions; lists = lists }
-
--- a cause's number and its first two figures; a submission's causes have no third
-abbrev pub causeOf : ErrorNumbers → Cause
-causeOf e = cause (e .number) (e .first) (e .second) 0
 
 -- what a caller is told, and what is left
 pub record Told : Type 0 where

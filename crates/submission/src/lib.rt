@@ -6,6 +6,7 @@ use actions::judge_ids;
 use actions::judge_tlas;
 use actions::submitted;
 use actions::use_action;
+use causes::submission_figures;
 use ray_tracing::Judged;
 use ray_tracing::SheetError;
 use ray_tracing::Submitted;
@@ -20,12 +21,12 @@ ghost use Prim.Native.Nat.{ℕ, _+_, _-_, _*_, _≤_, _<_};
 ghost use lib.ListN.{length};
 ghost use Rattle.ray_tracing.specs.Layout.{layout, size};
 ghost use Rattle.ray_tracing.specs.Reading.{judgeLent};
-ghost use Rattle.ray_tracing.specs.Causes.{cause, bare, sheetNumber, submissionCause};
+ghost use Rattle.ray_tracing.specs.Causes.{bare, sheetNumber, submissionCause};
 ghost use Rattle.ray_tracing.specs.Submission as Submission;
 ghost use Rattle.ray_tracing.specs.Submission.{tableCause, judgeRoom, judgeList, judgeLists, judge, markBlas, markTlas, action, decode, later, submission, answerNumbers};
 ghost use Rattle.actions.specs.Outcome.{lentOf, checkedOf, answerOf, counterOf, outcomeOf};
 ghost use Rattle.actions.specs.Known.{tlasesIn, Room};
-ghost use Rattle.submission.specs.Numbers.{pieceOf, causeOf, told, numbersOf, toldOf};
+ghost use Rattle.submission.specs.Numbers.{pieceOf, told, numbersOf, toldOf};
 
 // The starting list of one Tlas: 4 goes by the count itself.
 fn judge_list(
@@ -357,48 +358,6 @@ pub struct Validated {
     pub counter: u64,
 }
 
-struct ErrorNumbers {
-    number: u64,
-    first: u64,
-    second: u64,
-}
-
-fn error_numbers(number: u64, first: u64, second: u64) -> ErrorNumbers
-    ensures { λ r. ⌜ causeOf r ≡ cause number first second 0 ⌝ }
-{
-    ErrorNumbers {
-        number,
-        first,
-        second,
-    }
-}
-
-fn numbers_of(e: ValidateAsActionsError) -> ErrorNumbers
-    ensures { λ r. ⌜ causeOf r ≡ submissionCause e ⌝ }
-{
-    match e {
-        ValidateAsActionsError::TooMany => error_numbers(4, 0, 0),
-        ValidateAsActionsError::InvalidValue => error_numbers(5, 0, 0),
-        ValidateAsActionsError::InvalidResource => error_numbers(6, 0, 0),
-        ValidateAsActionsError::DestroyedResource(b) => error_numbers(21, b.0 as u64, 0),
-        ValidateAsActionsError::OutputTooShort => error_numbers(39, 0, 0),
-        ValidateAsActionsError::CounterExhausted => error_numbers(40, 0, 0),
-        ValidateAsActionsError::CompactedBlas(b) => error_numbers(41, b.0 as u64, 0),
-        ValidateAsActionsError::UsedUnbuiltBlas(b, t) => error_numbers(42, b.0 as u64, t.0 as u64),
-        ValidateAsActionsError::UsedTlasOfUnbuiltBlas(t, b) => error_numbers(
-            42,
-            t.0 as u64,
-            b.0 as u64,
-        ),
-        ValidateAsActionsError::UsedUnbuiltTlas(t) => error_numbers(43, t.0 as u64, 0),
-        ValidateAsActionsError::BlasNewerThenTlas(b, t) => error_numbers(
-            44,
-            b.0 as u64,
-            t.0 as u64,
-        ),
-    }
-}
-
 fn answered(answer: Submitted) -> Validated
     ensures { λ r. ⌜ (numbersOf r ≡ answerNumbers (answerOf answer)) × (r .counter ≡ counterOf answer) ⌝ }
 {
@@ -411,12 +370,12 @@ fn answered(answer: Submitted) -> Validated
             counter,
         },
         Submitted::Refused(e, action, counter) => {
-            let numbers = numbers_of(e);
+            let figures = submission_figures(e);
             Validated {
-                number: numbers.number,
+                number: figures.number,
                 action: action as u64,
-                first: numbers.first,
-                second: numbers.second,
+                first: figures.first,
+                second: figures.second,
                 counter,
             }
         }

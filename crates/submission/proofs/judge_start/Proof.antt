@@ -1,6 +1,6 @@
 use Rattle.actions.proofs.Walks.{nothing, or-stop, or-pass}
 use Rattle.submission.proofs.Lists.{lists-look}
-use Rattle.submission.proofs.Lent.{few-of-table}
+use Rattle.submission.proofs.Start.{few-of-table}
 use Rattle.submission.proofs.Lists.{room-known}
 use Rattle.actions.specs.Outcome.{lentOf}
 use Rattle.ray_tracing.specs.Layout.{layout, size}

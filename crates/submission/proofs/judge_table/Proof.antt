@@ -1,4 +1,5 @@
-use Rattle.submission.proofs.Lent.{lent-tabular, table-fine, table-number, table-refused}
+use Rattle.ray_tracing.proofs.Lent.{lent-tabular}
+use Rattle.submission.proofs.Start.{table-fine, table-number, table-refused}
 use Rattle.ray_tracing.specs.Layout.{layout, size}
 use mathlib.Core.List.{[]}
 use borrow.Author.Needs.{needs}

@@ -10,15 +10,8 @@ use lib.ListN.{length}
 use lib.Dec.{ltb, eqb}
 use borrow.Author.Tests.{le-ltb, eqb-true}
 use Rattle.wire.specs.Wire.{leAt}
 use Rattle.ray_tracing.specs.Layout.{Seen, Field, fits, Layout, size, total}
 use Rattle.ray_tracing.specs.Reading.{Judged, fine, refused, on, _or_, judgeField, judgeFields, judgeRecords, begin, ofBoxes, geometryCount, judgeDrawn, judgeTable, sumOfCounts, addsUp, byRecord, judgeLent}
-use mathlib.Core.Option.{none, some}
-use Rattle.ray_tracing.specs.declared.SheetError.{SheetError}
-use Rattle.ray_tracing.specs.declared.Judged as ray
-use Rattle.ray_tracing.specs.declared.Judged.the-variants as judged
-use Rattle.ray_tracing.specs.Causes.{Cause, bare, sheetNumber, judgedOf}
-use Rattle.ray_tracing.specs.Submission.{tableCause}
-use Rattle.actions.proofs.Start.{few-records}
 
 -- nothing but 5
 abbrev Value : Judged → Type 0
@@ -101,25 +94,3 @@ lent-tabular k l w t s = go (ltb (l .most) n) (addsUp k t n) refl
         or-tabular (byRecord (total (l .fields)) (judgeTable k (l .fields) w t s 0 n)) (on (not (eqb (length s % total (l .fields)) 0)) (refused 5 n))
         (value-tabular (total (l .fields)) (judgeTable k (l .fields) w t s 0 n) (table-value k (l .fields) w t s n e (div-mul-le-self (length s) (total (l .fields)))))
         (last (not (eqb (length s % total (l .fields)) 0)))
-
--- ---- as a cause of a submission
-
-table-none : (j : Judged) → tableCause j ≡ none → j ≡ fine
-table-none fine e = refl
-table-none (refused n p) e =
-    let z : _≡_ {A = ℕ} 0 1 = cc in
-    absurd (omega arith)
-
-pub few-of-table : (k : ℕ) (l : Layout) (w : ℕ) (t s : List ℕ) → tableCause (judgeLent k l w t s) ≡ none → length s / total (l .fields) ≤ l .most
-few-of-table k l w t s e = few-records k l w t s (table-none (judgeLent k l w t s) e)
-
-module _ {x : ray.Judged} {j : Judged} (p : judgedOf x ≡ j) where
-  pub table-fine : x ≡ judged.Fine → none ≡ tableCause j
-  table-fine q = ap tableCause (sym (ap judgedOf q) ∙ p)
-
-  module _ {e : SheetError} {place : ℕ} (q : x ≡ judged.Refused e place) where
-    pub table-number : Tabular j → (sheetNumber e ≡ 4) ⊎ (sheetNumber e ≡ 5)
-    table-number h = rw (sym p ∙ ap judgedOf q) at h
-
-    pub table-refused : {c : Cause} → c ≡ bare (sheetNumber e) → some c ≡ tableCause j
-    table-refused h = rw (h, sym p ∙ ap judgedOf q)
