@@ -3,7 +3,7 @@ use Prim.Native.Nat.{ℕ, zero, suc, _+_, _-_, _*_, _/_, _≤_, _<_}
 use native.Mathlib.Nat.{not-suc-le-zero, le-of-suc-le-suc, add-zero, le-div-iff-mul-le}
 use native.Mathlib.Omega.{arith}
 use mathlib.Core.Bool.{Bool, true, false}
-use mathlib.Core.Path.{_≡_, refl, sym, _∙_}
+use mathlib.Core.Path.{_≡_, refl, sym, ap, _∙_}
 use mathlib.Core.List.{List}
 use lib.ListN.{length}
 use lib.Dec.{leb}
@@ -40,6 +40,10 @@ none-atE e f (suc n) h =
     let z : _≡_ {A = ℕ} 0 1 = cc in
     absurd (omega arith)
 
+pub or-none : (v : Verdict) → (v or passed) ≡ v
+or-none passed = refl
+or-none (refused e f c) = refl
+
 -- an id that is not refused is inside its table
 pub mention-inside : (w : ℕ) (t : List ℕ) (id : ℕ) → mention w t id ≡ 0 → id < length t / w
 unfolding refuse
@@ -64,6 +68,10 @@ each-passed f (suc n) i e (suc k) h =
     rw m at (each-passed f n (i + 1) (or-passed (f i) _ e .1) k (le-of-suc-le-suc h))
 
 -- as a loop goes: what is left from i on is the whole
+
+pub from-start : (f : ℕ → Verdict) (n : ℕ) → firstOf f 0 (n - 0) ≡ firstOf f 0 n
+from-start f n = ap (firstOf f 0) (omega arith)
+
 module _ (f : ℕ → Verdict) (i n : ℕ) (whole : Verdict) (left : firstOf f i (n - i) ≡ whole) where
   pub ended : n ≤ i → passed ≡ whole
   unfolding firstOf
@@ -98,6 +106,9 @@ module _ (f : ℕ → ℕ → Verdict) (count : ℕ → ℕ) where
         let m : i + 1 + k ≡ i + suc k = omega arith in
         let e′ = or-passed (f i (before i)) _ e .1 in
         rw m at (each-drawing n (i + 1) (rw (more i) e′) k (le-of-suc-le-suc h))
+
+  pub from-start-drawing : (n : ℕ) → firstDrawing f count 0 0 (n - 0) ≡ firstDrawing f count 0 0 n
+  from-start-drawing n = ap (firstDrawing f count 0 0) (omega arith)
 
   module _ (i g n : ℕ) (whole : Verdict) (left : firstDrawing f count i g (n - i) ≡ whole) where
     pub ended-drawing : n ≤ i → passed ≡ whole

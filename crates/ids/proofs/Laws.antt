@@ -1,0 +1,66 @@
+-- Laws of the ids of one geometry, by its entry's kind.
+use Prim.Native.Nat.{ℕ, _+_, _*_}
+use native.Mathlib.Omega.{arith}
+use mathlib.Core.Bool.{cond}
+use mathlib.Core.Path.{_≡_, refl, sym, ap, _∙_}
+use mathlib.Core.List.{List, []}
+use lib.Dec.{eqb}
+use borrow.Author.Tests.{eq-eqb, ne-eqb}
+use Rattle.ray_tracing.specs.declared.BlasBuildEntry.{BlasBuildEntry}
+use Rattle.ray_tracing.specs.declared.BlasGeometry.{BlasGeometry}
+use Rattle.ray_tracing.specs.Records.{entryAt, geometryAt}
+use Rattle.ray_tracing.specs.Mentions.{bufferMention, blasMention}
+use Rattle.ray_tracing.specs.Plan.{Verdict, _or_, atE, firstOf, geometryCount, geometryIds, entryIds}
+use Rattle.ray_tracing.proofs.Verdicts.{or-none}
+use Rattle.ids.specs.Lent.{forEntries}
+
+-- a buffer that may be none
+abbrev optional : List ℕ → ℕ → ℕ
+optional buffers id = cond (eqb id 65535) 0 (bufferMention buffers id)
+
+module _ (buffers entries geometries : List ℕ) (i j g : ℕ) {entry : BlasBuildEntry} {geometry : BlasGeometry} (e : entry ≡ entryAt entries (i * 5)) (h : geometry ≡ geometryAt geometries (g * 44)) where
+  -- boxes have a data buffer only
+  pub of-boxes :
+      {v : Verdict} {m : ℕ}
+      → v ≡ atE i j m
+      → m ≡ bufferMention buffers (geometry .buffer .0)
+      → (entry .kind ≡ 0 → ⊥)
+      → v ≡ geometryIds (forEntries buffers [] [] entries geometries) i j g
+  of-boxes p q k =
+      let z : eqb (entryAt entries (i * 5) .kind) 0 ≡ eqb (entry .kind) 0 = ap (λ (b : BlasBuildEntry). eqb (b .kind) 0) (sym e) in
+      let m = ap (λ (b : BlasGeometry). bufferMention buffers (b .buffer .0)) h in
+      rw (z, ne-eqb (entry .kind) 0 k, or-none) (p ∙ ap (atE i j) (q ∙ m))
+
+  pub of-triangles :
+      {v w d n t : Verdict} {m₀ m₁ m₂ : ℕ}
+      → v ≡ (d or w)
+      → w ≡ (n or t)
+      → d ≡ atE i j m₀
+      → m₀ ≡ bufferMention buffers (geometry .buffer .0)
+      → n ≡ atE i j m₁
+      → m₁ ≡ optional buffers (geometry .«index_buffer» .0)
+      → t ≡ atE i j m₂
+      → m₂ ≡ optional buffers (geometry .«transform_buffer» .0)
+      → entry .kind ≡ 0
+      → v ≡ geometryIds (forEntries buffers [] [] entries geometries) i j g
+  of-triangles p r a a′ b b′ c c′ k =
+      let z : eqb (entryAt entries (i * 5) .kind) 0 ≡ eqb (entry .kind) 0 = ap (λ (b : BlasBuildEntry). eqb (b .kind) 0) (sym e) in
+      let a″ = a′ ∙ ap (λ (b : BlasGeometry). bufferMention buffers (b .buffer .0)) h in
+      let b″ = b′ ∙ ap (λ (b : BlasGeometry). optional buffers (b .«index_buffer» .0)) h in
+      let c″ = c′ ∙ ap (λ (b : BlasGeometry). optional buffers (b .«transform_buffer» .0)) h in
+      rw (z, eq-eqb (entry .kind) 0 k) (p ∙ rw (r, a, a″, b, b″, c, c″))
+
+-- an entry's ids: its geometries', then its Blas
+pub of-entry :
+    (buffers blases entries geometries : List ℕ) (i g count : ℕ) {entry : BlasBuildEntry} {v d b : Verdict} {m : ℕ}
+    → entry ≡ entryAt entries (i * 5)
+    → count ≡ geometryCount (forEntries [] [] [] entries []) i
+    → v ≡ (d or b)
+    → d ≡ firstOf (λ j. geometryIds (forEntries buffers [] [] entries geometries) i j (g + j)) 0 count
+    → b ≡ atE i 0 m
+    → m ≡ blasMention blases (entry .blas .0)
+    → v ≡ entryIds (forEntries buffers blases [] entries geometries) i g
+of-entry buffers blases entries geometries i g count e n p q b m =
+    let m′ = m ∙ ap (λ (y : BlasBuildEntry). blasMention blases (y .blas .0)) e in
+    let q′ = q ∙ ap (firstOf (λ j. geometryIds (forEntries buffers [] [] entries geometries) i j (g + j)) 0) n in
+    p ∙ rw (q′, b, m′)
