@@ -40,7 +40,8 @@ use Rattle.ray_tracing.specs.Plan.{
   judgeIds,
 }
 use Rattle.ray_tracing.proofs.Reading.{or-fine, on-fine}
-use Rattle.ray_tracing.proofs.Verdicts.{or-passed, on-passed, on-true, none-atE, mention-inside, each-passed, each-drawing}
+use Rattle.ray_tracing.proofs.Mentions.{mention-inside}
+use Rattle.ray_tracing.proofs.Verdicts.{or-passed, on-passed, on-true, none-atE, each-passed, each-drawing}
 
 -- the scratch alignment and the eight tables, as an entry point is lent them
 abbrev pub tablesOf : ℕ → List ℕ → List ℕ → List ℕ → List ℕ → List ℕ → List ℕ → List ℕ → List ℕ → Tables

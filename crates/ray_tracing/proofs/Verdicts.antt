@@ -6,11 +6,7 @@ use mathlib.Core.Bool.{Bool, true, false}
 use mathlib.Core.Path.{_≡_, refl, sym, ap, _∙_}
 use mathlib.Core.List.{List}
 use lib.ListN.{length}
-use lib.Dec.{leb}
-use borrow.Author.Tests.{leb-false}
-use Rattle.ray_tracing.specs.Guard.{refuse}
 use Rattle.ray_tracing.specs.Causes.{Cause}
-use Rattle.ray_tracing.specs.Mentions.{mention}
 use Rattle.ray_tracing.specs.Plan.{Verdict, passed, refused, on, _or_, atE, firstOf, firstDrawing}
 
 -- ---- what passing tells
@@ -44,16 +40,7 @@ pub or-none : (v : Verdict) → (v or passed) ≡ v
 or-none passed = refl
 or-none (refused e f c) = refl
 
--- an id that is not refused is inside its table
-pub mention-inside : (w : ℕ) (t : List ℕ) (id : ℕ) → mention w t id ≡ 0 → id < length t / w
-unfolding refuse
-mention-inside w t id h = go (leb (length t / w) id) refl h
-  where
-    go : (b : Bool) → leb (length t / w) id ≡ b → _≡_ {A = ℕ} (refuse b 6 0) 0 → id < length t / w
-    go true e q = absurd (omega arith)
-    go false e q = leb-false (length t / w) id e
-
--- and its record is whole
+-- the record of an id inside its table is whole
 pub record-whole : (w : ℕ) (t : List ℕ) (id : ℕ) → 0 < w → id < length t / w → id * w + w ≤ length t
 record-whole w t id p h = omega (arith, le-div-iff-mul-le {k = w} {x = id + 1} {y = length t} p .0 (omega arith))
 
