@@ -1,18 +1,28 @@
 -- Laws of the ids of one geometry, by its entry's kind.
 use Prim.Native.Nat.{ℕ, _+_, _*_}
-use native.Mathlib.Omega.{arith}
-use mathlib.Core.Bool.{cond}
+use mathlib.Core.Bool.{Bool, true, false, cond}
 use mathlib.Core.Path.{_≡_, refl, sym, ap, _∙_}
 use mathlib.Core.List.{List, []}
 use lib.Dec.{eqb}
 use borrow.Author.Tests.{eq-eqb, ne-eqb}
 use Rattle.ray_tracing.specs.declared.BlasBuildEntry.{BlasBuildEntry}
 use Rattle.ray_tracing.specs.declared.BlasGeometry.{BlasGeometry}
-use Rattle.ray_tracing.specs.Records.{entryAt, geometryAt}
-use Rattle.ray_tracing.specs.Mentions.{bufferMention, blasMention}
-use Rattle.ray_tracing.specs.Plan.{Verdict, _or_, atE, firstOf, geometryCount, geometryIds, entryIds}
+use Rattle.ray_tracing.specs.declared.TlasPackage.{TlasPackage}
+use Rattle.ray_tracing.specs.Records.{fieldAt, entryAt, geometryAt, packageAt}
+use Rattle.ray_tracing.specs.Causes.{Cause}
+use Rattle.ray_tracing.specs.Mentions.{bufferMention, blasMention, tlasMention}
+use Rattle.ray_tracing.specs.Instances.{presentAt, slotMention}
+use Rattle.ray_tracing.specs.Plan.{Verdict, passed, refused, on, _or_, atE, firstOf, geometryCount, slotCount, geometryIds, entryIds, slotIds, packageIds}
 use Rattle.ray_tracing.proofs.Verdicts.{or-none}
-use Rattle.ids.specs.Lent.{forEntries}
+use Rattle.ids.specs.Lent.{forEntries, forPackages}
+
+-- the first of two, by what was found of the first
+
+pub or-first : {v a : Verdict} (b : Verdict) (e f : ℕ) (c : Cause) → v ≡ a → v ≡ refused e f c → v ≡ (a or b)
+or-first b e f c p q = q ∙ rw (sym p ∙ q)
+
+pub or-second : {u v a b : Verdict} → u ≡ a → u ≡ passed → v ≡ b → v ≡ (a or b)
+or-second p q r = r ∙ rw (sym p ∙ q)
 
 -- a buffer that may be none
 abbrev optional : List ℕ → ℕ → ℕ
@@ -64,3 +74,30 @@ of-entry buffers blases entries geometries i g count e n p q b m =
     let m′ = m ∙ ap (λ (y : BlasBuildEntry). blasMention blases (y .blas .0)) e in
     let q′ = q ∙ ap (firstOf (λ j. geometryIds (forEntries buffers [] [] entries geometries) i j (g + j)) 0) n in
     p ∙ rw (q′, b, m′)
+
+-- a slot that is not present is refused for nothing
+pub of-slot :
+    (blases slots : List ℕ) (p j s : ℕ) {v : Verdict} {m : ℕ}
+    → v ≡ atE p j m
+    → m ≡ slotMention blases slots (s * 56)
+    → v ≡ slotIds (forPackages blases [] [] slots) p j s
+of-slot blases slots p j s e q = e ∙ ap (atE p j) q ∙ go (presentAt slots (s * 56)) (blasMention blases (fieldAt 8 slots (s * 56) 1))
+  where
+    go : (b : Bool) (n : ℕ) → atE p j (cond b n 0) ≡ on b (atE p j n)
+    go true n = refl
+    go false n = refl
+
+-- a package's ids: its slots', then its Tlas
+pub of-package :
+    (blases tlases packages slots : List ℕ) (p s count : ℕ) {built : TlasPackage} {v d b : Verdict} {m : ℕ}
+    → built ≡ packageAt packages (p * 4)
+    → count ≡ slotCount (forPackages [] [] packages []) p
+    → v ≡ (d or b)
+    → d ≡ firstOf (λ j. slotIds (forPackages blases [] [] slots) p j (s + j)) 0 count
+    → b ≡ atE p 0 m
+    → m ≡ tlasMention tlases (built .tlas .0)
+    → v ≡ packageIds (forPackages blases tlases packages slots) p s
+of-package blases tlases packages slots p s count e n q r b m =
+    let m′ = m ∙ ap (λ (y : TlasPackage). tlasMention tlases (y .tlas .0)) e in
+    let r′ = r ∙ ap (firstOf (λ j. slotIds (forPackages blases [] [] slots) p j (s + j)) 0) n in
+    q ∙ rw (r′, b, m′)

@@ -1,11 +1,14 @@
 // Ids first: per entry each geometry's buffers, then the Blas; per package each present slot's Blas, then the Tlas.
+use instance::slot_mention;
 use ray_tracing::BuildAccelerationStructureError;
 use ray_tracing::Mentioned;
 use ray_tracing::Verdict;
-use ray_tracing::buffer_mention;
 use ray_tracing::blas_mention;
+use ray_tracing::buffer_mention;
 use ray_tracing::entry_at;
 use ray_tracing::geometry_at;
+use ray_tracing::package_at;
+use ray_tracing::tlas_mention;
 ghost use mathlib.Core.Path.{_≡_};
 ghost use mathlib.Core.Bool.{cond};
 ghost use mathlib.Core.List.{[]};
@@ -13,11 +16,10 @@ ghost use Prim.Native.Nat.{_+_, _*_, _/_, _≤_};
 ghost use lib.ListN.{length};
 ghost use lib.Dec.{eqb};
 ghost use Rattle.ray_tracing.specs.Layout.{size};
-ghost use Rattle.ray_tracing.specs.Reading.{sumOfCounts};
 ghost use Rattle.ray_tracing.specs.Mentions.{mentionOf, bufferMention};
-ghost use Rattle.ray_tracing.specs.Plan.{verdictOf, _or_, atE, firstOf, firstDrawing, geometryCount, recordsIn, geometryIds, entryIds};
-ghost use Rattle.ray_tracing.proofs.Inside.{drawnBefore};
-ghost use Rattle.ids.specs.Lent.{forEntries};
+ghost use Rattle.ray_tracing.specs.Plan.{verdictOf, _or_, atE, firstOf, firstDrawing, geometryCount, slotCount, geometryIds, entryIds, slotIds, packageIds, judgeIds};
+ghost use Rattle.ray_tracing.proofs.Inside.{tablesOf, drawnBefore, slotsBefore};
+ghost use Rattle.ids.specs.Lent.{forEntries, forPackages};
 
 // The first of two.
 pub fn first(a: Verdict, b: Verdict) -> Verdict
@@ -163,4 +165,124 @@ fn entries_ids(buffers: &[u8], blases: &[u8], entries: &[u8], geometries: &[u8])
         i += 1;
     }
     Verdict::Passed
+}
+
+// The j-th slot of package p, which is slot s: its Blas, if it is present.
+fn slot_ids(blases: &[u8], slots: &[u8], p: usize, j: usize, s: usize) -> Verdict
+    requires { ⌜ s * 56 + 56 ≤ length (now slots) ⌝ }
+    ensures { λ r. ⌜ verdictOf r ≡ slotIds (forPackages (now (blases .entry)) [] [] (now (slots .entry))) p j s ⌝ }
+{
+    mention_verdict(slot_mention(blases, slots, s * 56), p, j)
+}
+
+// The slots of package p, from slot s on.
+fn slots_ids(blases: &[u8], slots: &[u8], p: usize, s: usize, count: usize) -> Verdict
+    requires { ⌜ (s + count) * 56 ≤ length (now slots) ⌝ }
+    ensures { λ r. ⌜
+        verdictOf r ≡ firstOf (λ j. slotIds (forPackages (now (blases .entry)) [] [] (now (slots .entry))) p j (s + j)) 0 count
+        ⌝ }
+{
+    let mut j: usize = 0;
+    while j < count {
+        let v = slot_ids(blases, slots, p, j, s + j);
+        if let Verdict::Refused(_, _, _) = v {
+            return v;
+        }
+        j += 1;
+    }
+    Verdict::Passed
+}
+
+// How many slots package p draws.
+pub fn slot_count(packages: &[u8], p: usize) -> usize
+    requires { ⌜ p * 4 + 4 ≤ length (now packages) ⌝ }
+    ensures { λ r. ⌜ r ≡ slotCount (forPackages [] [] (now (packages .entry)) []) p ⌝ }
+{
+    let package = package_at(packages, p * 4);
+    package.slot_count as usize
+}
+
+// Package p, whose slots stand from slot s on: they, then its Tlas.
+fn package_ids(
+    blases: &[u8],
+    tlases: &[u8],
+    packages: &[u8],
+    slots: &[u8],
+    p: usize,
+    s: usize,
+    count: usize,
+) -> Verdict
+    requires { ⌜ (p * 4 + 4 ≤ length (now packages)) × ((s + count) * 56 ≤ length (now slots)) ⌝ }
+    requires { ⌜ count ≡ slotCount (forPackages [] [] (now packages) []) p ⌝ }
+    ensures { λ r. ⌜
+        verdictOf r
+        ≡ packageIds (forPackages (now (blases .entry)) (now (tlases .entry)) (now (packages .entry)) (now (slots .entry))) p s
+        ⌝ }
+{
+    let slot = slots_ids(blases, slots, p, s, count);
+    let package = package_at(packages, p * 4);
+    let id = package.tlas;
+    let tlas = mention_verdict(tlas_mention(tlases, id.0 as usize), p, 0);
+    first(slot, tlas)
+}
+
+fn packages_ids(blases: &[u8], tlases: &[u8], packages: &[u8], slots: &[u8]) -> Verdict
+    requires { ⌜ slotsBefore (forPackages [] [] (now packages) []) (length (now packages) / size 7) ≡ length (now slots) / size 8 ⌝ }
+    ensures { λ r. ⌜
+        verdictOf r
+        ≡ firstDrawing
+        (packageIds (forPackages (now (blases .entry)) (now (tlases .entry)) (now (packages .entry)) (now (slots .entry))))
+        (slotCount (forPackages [] [] (now (packages .entry)) []))
+        0
+        0
+        (length (now (packages .entry)) / size 7)
+        ⌝ }
+{
+    let n = packages.len() / 4;
+    let mut p: usize = 0;
+    let mut s: usize = 0;
+    while p < n {
+        let count = slot_count(packages, p);
+        let v = package_ids(blases, tlases, packages, slots, p, s, count);
+        if let Verdict::Refused(_, _, _) = v {
+            return v;
+        }
+        s += count;
+        p += 1;
+    }
+    Verdict::Passed
+}
+
+// Entries, then packages; what they draw adds up.
+pub fn judge_ids(
+    buffers: &[u8],
+    blases: &[u8],
+    tlases: &[u8],
+    entries: &[u8],
+    geometries: &[u8],
+    packages: &[u8],
+    slots: &[u8],
+) -> Verdict
+    requires { ⌜ drawnBefore (forEntries [] [] [] (now entries) []) (length (now entries) / size 5) ≡ length (now geometries) / size 6 ⌝ }
+    requires { ⌜ slotsBefore (forPackages [] [] (now packages) []) (length (now packages) / size 7) ≡ length (now slots) / size 8 ⌝ }
+    ensures { λ r. ⌜
+        verdictOf r
+        ≡ judgeIds
+        (tablesOf
+        0
+        (now (buffers .entry))
+        (now (blases .entry))
+        []
+        (now (tlases .entry))
+        (now (entries .entry))
+        (now (geometries .entry))
+        (now (packages .entry))
+        (now (slots .entry)))
+        ⌝ }
+{
+    let v = entries_ids(buffers, blases, entries, geometries);
+    if let Verdict::Refused(_, _, _) = v {
+        return v;
+    }
+    packages_ids(blases, tlases, packages, slots)
 }
