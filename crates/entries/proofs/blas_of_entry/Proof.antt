@@ -1,0 +1,20 @@
+-- `entries::blas_of_entry` meets its contract: the entry's Blas is read at its place.
+use Prim.Native.Nat.{_*_}
+use native.Mathlib.Omega.{arith}
+use mathlib.Core.Path.{ap, _∙_}
+use Rattle.ray_tracing.specs.declared.BlasBuildEntry.{BlasBuildEntry}
+use Rattle.ray_tracing.specs.Records.{blasAt}
+use borrow.Author.Needs.{needs}
+use Rattle.entries.proofs.blas_of_entry.Statement.{statement}
+use Rattle.entries.proofs.blas_of_entry.Tie as tie
+
+blas-at-requires : tie.Need-blas-at-requires
+blas-at-requires c κs = omega (arith, ap (λ (y : BlasBuildEntry). y .blas .0) (c .before .before .entry-at .ensures), c .before .before .before .before .before .pre .1)
+
+returns : tie.Need-returns
+returns c = c .blas-at .ensures ∙ ap (λ (y : BlasBuildEntry). blasAt (c .before .before .before .before .before .before .args .blases .now) (y .blas .0 * 28)) (c .before .before .before .entry-at .ensures)
+
+pub blas-of-entry-spec : {M : Type 1} → statement M
+blas-of-entry-spec =
+    tie.close
+    (tie.spec (λ c. search needs) (λ c κs. search needs) (λ c. search needs) (λ c. search needs) blas-at-requires returns)

@@ -1,0 +1,169 @@
+// Entries, geometries in turn: each against what its Blas declares, found by an index of section 3.
+use geometry::check_aabbs;
+use geometry::check_triangles;
+use ids::geometry_count;
+use ray_tracing::Blas;
+use ray_tracing::BlasGeometry;
+use ray_tracing::BlasId;
+use ray_tracing::BufferId;
+use ray_tracing::CheckedGeometry;
+use ray_tracing::Declared;
+use ray_tracing::GivenBuffer;
+use ray_tracing::Verdict;
+use ray_tracing::blas_at;
+use ray_tracing::buffer_at;
+use ray_tracing::declared_at;
+use ray_tracing::entry_at;
+use ray_tracing::geometry_at;
+use wire::u16_at;
+ghost use mathlib.Core.Path.{_≡_};
+ghost use mathlib.Core.List.{[]};
+ghost use Prim.Native.Nat.{_+_, _*_, _/_, _≤_, _<_};
+ghost use lib.ListN.{length};
+ghost use Rattle.ray_tracing.specs.Layout.{size};
+ghost use Rattle.ray_tracing.specs.Mentions.{bufferOf};
+ghost use Rattle.ray_tracing.specs.Checks.{declaredOf, lentOf, checkedOf};
+ghost use Rattle.ray_tracing.specs.Triangles.{lent};
+ghost use Rattle.ray_tracing.specs.Plan.{entryOf, blasOfEntry, checkedAt};
+ghost use Rattle.ray_tracing.proofs.Inside.{Named};
+ghost use Rattle.ids.specs.Lent.{forEntries};
+ghost use Rattle.entries.specs.Index.{Indexable, Heads, Nexts, nthOf, following, standing};
+ghost use Rattle.entries.specs.Kinds.{byKind};
+ghost use Rattle.entries.specs.Within.{GeometryInside};
+
+fn wide(x: u16) -> usize
+    ensures { λ r. ⌜ r ≡ x ⌝ }
+{
+    x as usize
+}
+
+// For each Blas its first declared geometry, and for each declared geometry the next of the same Blas; how many there are where there is
+// none.
+pub struct DeclaredIndex {
+    pub head: [u16; 128],
+    pub next: [u16; 512],
+}
+
+// One pass, from the last to the first.
+pub fn index_declared(declared: &[u8]) -> DeclaredIndex
+    requires { ⌜ Indexable (now declared) ⌝ }
+    ensures { λ r. ⌜ (Heads (now (declared .entry)) (r .head)) × (Nexts (now (declared .entry)) (r .next)) ⌝ }
+{
+    let n = declared.len() / 18;
+    let mut head = [n as u16; 128];
+    let mut next = [0u16; 512];
+    let mut i = n;
+    while 0 < i {
+        i -= 1;
+        let blas = u16_at(declared, i * 18) as usize;
+        next[i] = head[blas];
+        head[blas] = i as u16;
+    }
+    DeclaredIndex { head, next }
+}
+
+// The first declared geometry of a Blas.
+pub fn first_declared(declared: &[u8], head: &[u16; 128], blas: BlasId) -> usize
+    requires { ⌜ (Heads (now declared) (now head)) × (blas .0 < 128) ⌝ }
+    ensures { λ r. ⌜ r ≡ nthOf (now (declared .entry)) (blas .0) 0 ⌝ }
+{
+    let b = blas.0 as usize;
+    wide(head[b])
+}
+
+// The one after it.
+pub fn next_declared(declared: &[u8], next: &[u16; 512], at: usize) -> usize
+    requires { ⌜ length (now declared) / 18 ≤ 512 ⌝ }
+    ensures { λ r. ⌜ r ≡ following (now (declared .entry)) (now (next .entry)) at ⌝ }
+{
+    if at < declared.len() / 18 {
+        wide(next[at])
+    } else {
+        at
+    }
+}
+
+fn declared_standing(declared: &[u8], at: usize) -> Declared
+    ensures { λ r. ⌜ declaredOf r ≡ standing (now (declared .entry)) at ⌝ }
+{
+    if at < declared.len() / 18 {
+        return Declared::Given(declared_at(declared, at * 18));
+    }
+    Declared::Missing
+}
+
+// The buffer of an id that may be none.
+fn given_buffer(buffers: &[u8], id: BufferId) -> GivenBuffer
+    requires { ⌜ Named (id .0) (length (now buffers) / size 1) ⌝ }
+    ensures { λ r. ⌜ lentOf r ≡ lent (bufferOf (now (buffers .entry))) (id .0) ⌝ }
+{
+    if id.0 == 65535 {
+        return GivenBuffer::Absent;
+    }
+    GivenBuffer::Given(buffer_at(buffers, id.0 as usize * 9))
+}
+
+// A geometry by its entry's kind, against what its Blas declares for it.
+fn check_geometry(
+    buffers: &[u8],
+    kind: u8,
+    blas: Blas,
+    declared: Declared,
+    g: BlasGeometry,
+) -> CheckedGeometry
+    requires { ⌜ g .buffer .0 < length (now buffers) / size 1 ⌝ }
+    requires { ⌜ (kind ≡ 0 → Named (g .«index_buffer» .0) (length (now buffers) / size 1)) × (kind ≡ 0 → Named (g .«transform_buffer» .0) (length (now buffers) / size 1)) ⌝ }
+    ensures { λ r. ⌜
+        checkedOf r ≡ byKind (now (buffers .entry)) kind blas (declaredOf declared) g
+        ⌝ }
+{
+    let id = g.buffer;
+    let data = buffer_at(buffers, id.0 as usize * 9);
+    if kind != 0 {
+        return check_aabbs(blas, declared, g, data);
+    }
+    let index = given_buffer(buffers, g.index_buffer);
+    let transform = given_buffer(buffers, g.transform_buffer);
+    check_triangles(blas, declared, g, data, index, transform)
+}
+
+// The Blas of entry i.
+pub fn blas_of_entry(blases: &[u8], entries: &[u8], i: usize) -> Blas
+    requires { ⌜ i * 5 + 5 ≤ length (now entries) ⌝ }
+    requires { ⌜ entryOf (forEntries [] [] [] (now entries) []) i .blas .0 < length (now blases) / size 2 ⌝ }
+    ensures { λ r. ⌜ r ≡ blasOfEntry (forEntries [] (now (blases .entry)) [] (now (entries .entry)) []) i ⌝ }
+{
+    let entry = entry_at(entries, i * 5);
+    let id = entry.blas;
+    blas_at(blases, id.0 as usize * 28)
+}
+
+// The j-th geometry of entry i, which is geometry g, and for which its Blas declares what stands at a place of section 3.
+pub fn check_geometry_at(
+    buffers: &[u8],
+    blases: &[u8],
+    declared: &[u8],
+    entries: &[u8],
+    geometries: &[u8],
+    i: usize,
+    j: usize,
+    g: usize,
+    at: usize,
+) -> CheckedGeometry
+    requires { ⌜ GeometryInside (forEntries (now buffers) (now blases) (now declared) (now entries) (now geometries)) i g ⌝ }
+    requires { ⌜ at ≡ nthOf (now declared) (entryOf (forEntries [] [] [] (now entries) []) i .blas .0) j ⌝ }
+    ensures { λ r. ⌜
+        checkedOf r
+        ≡ checkedAt
+        (forEntries (now (buffers .entry)) (now (blases .entry)) (now (declared .entry)) (now (entries .entry)) (now (geometries .entry)))
+        i
+        j
+        g
+        ⌝ }
+{
+    let entry = entry_at(entries, i * 5);
+    let blas = blas_of_entry(blases, entries, i);
+    let geometry = geometry_at(geometries, g * 44);
+    let descriptor = declared_standing(declared, at);
+    check_geometry(buffers, entry.kind, blas, descriptor, geometry)
+}
