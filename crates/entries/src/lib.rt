@@ -18,18 +18,18 @@ use ray_tracing::geometry_at;
 use wire::u16_at;
 ghost use mathlib.Core.Path.{_≡_};
 ghost use mathlib.Core.List.{[]};
-ghost use Prim.Native.Nat.{_+_, _*_, _/_, _≤_, _<_};
+ghost use Prim.Native.Nat.{ℕ, _+_, _*_, _/_, _≤_, _<_};
 ghost use lib.ListN.{length};
 ghost use Rattle.ray_tracing.specs.Layout.{size};
 ghost use Rattle.ray_tracing.specs.Mentions.{bufferOf};
 ghost use Rattle.ray_tracing.specs.Checks.{declaredOf, lentOf, checkedOf};
 ghost use Rattle.ray_tracing.specs.Triangles.{lent};
-ghost use Rattle.ray_tracing.specs.Plan.{entryOf, blasOfEntry, checkedAt};
+ghost use Rattle.ray_tracing.specs.Plan.{verdictOf, firstOf, firstDrawing, entryOf, geometryCount, blasOfEntry, checkedAt, checkedE, judgeEntry, judgeEntries};
 ghost use Rattle.ray_tracing.proofs.Inside.{Named};
 ghost use Rattle.ids.specs.Lent.{forEntries};
 ghost use Rattle.entries.specs.Index.{Indexable, Heads, Nexts, nthOf, following, standing};
 ghost use Rattle.entries.specs.Kinds.{byKind};
-ghost use Rattle.entries.specs.Within.{GeometryInside};
+ghost use Rattle.entries.specs.Within.{GeometryInside, EntriesInside};
 
 fn wide(x: u16) -> usize
     ensures { λ r. ⌜ r ≡ x ⌝ }
@@ -166,4 +166,165 @@ pub fn check_geometry_at(
     let geometry = geometry_at(geometries, g * 44);
     let descriptor = declared_standing(declared, at);
     check_geometry(buffers, entry.kind, blas, descriptor, geometry)
+}
+
+// What a check finds, at E.
+fn checked_verdict(c: CheckedGeometry, i: usize, j: usize) -> Verdict
+    ensures { λ r. ⌜ verdictOf r ≡ checkedE i j (checkedOf c) ⌝ }
+{
+    match c {
+        CheckedGeometry::Refused(e) => Verdict::Refused(e, i, j),
+        _ => Verdict::Passed,
+    }
+}
+
+// The geometries of entry i, from geometry g on; its Blas declares the first at a place.
+fn judge_geometries(
+    buffers: &[u8],
+    blases: &[u8],
+    declared: &[u8],
+    entries: &[u8],
+    geometries: &[u8],
+    next: &[u16; 512],
+    i: usize,
+    g: usize,
+    place: usize,
+    count: usize,
+) -> Verdict
+    requires { ⌜ ((j : ℕ) → j < count → GeometryInside (forEntries (now buffers) (now blases) (now declared) (now entries) (now geometries)) i (g + j)) ⌝ }
+    requires { ⌜ place ≡ nthOf (now declared) (entryOf (forEntries [] [] [] (now entries) []) i .blas .0) 0 ⌝ }
+    requires { ⌜ Nexts (now declared) (now next) × (length (now declared) / 18 ≤ 512) ⌝ }
+    ensures { λ r. ⌜
+        verdictOf r
+        ≡ firstOf
+        (λ j. checkedE i j (checkedAt (forEntries (now (buffers .entry)) (now (blases .entry)) (now (declared .entry)) (now (entries .entry)) (now (geometries .entry))) i j (g + j)))
+        0
+        count
+        ⌝ }
+{
+    let mut at = place;
+    let mut j: usize = 0;
+    while j < count {
+        let checked = check_geometry_at(
+            buffers,
+            blases,
+            declared,
+            entries,
+            geometries,
+            i,
+            j,
+            g + j,
+            at,
+        );
+        let v = checked_verdict(checked, i, j);
+        if let Verdict::Refused(_, _, _) = v {
+            return v;
+        }
+        at = next_declared(declared, next, at);
+        j += 1;
+    }
+    Verdict::Passed
+}
+
+// Entry i, whose geometries stand from geometry g on.
+fn judge_entry(
+    buffers: &[u8],
+    blases: &[u8],
+    declared: &[u8],
+    entries: &[u8],
+    geometries: &[u8],
+    head: &[u16; 128],
+    next: &[u16; 512],
+    i: usize,
+    g: usize,
+    count: usize,
+) -> Verdict
+    requires { ⌜ ((j : ℕ) → j < count → GeometryInside (forEntries (now buffers) (now blases) (now declared) (now entries) (now geometries)) i (g + j)) ⌝ }
+    requires { ⌜ (i * 5 + 5 ≤ length (now entries)) × (entryOf (forEntries [] [] [] (now entries) []) i .blas .0 < 128) ⌝ }
+    requires { ⌜ count ≡ geometryCount (forEntries [] [] [] (now entries) []) i ⌝ }
+    requires { ⌜ Heads (now declared) (now head) × Nexts (now declared) (now next) × (length (now declared) / 18 ≤ 512) ⌝ }
+    ensures { λ r. ⌜
+        verdictOf r ≡ judgeEntry (forEntries (now (buffers .entry)) (now (blases .entry)) (now (declared .entry)) (now (entries .entry)) (now (geometries .entry))) i g
+        ⌝ }
+{
+    let entry = entry_at(entries, i * 5);
+    let place = first_declared(declared, head, entry.blas);
+    judge_geometries(
+        buffers,
+        blases,
+        declared,
+        entries,
+        geometries,
+        next,
+        i,
+        g,
+        place,
+        count,
+    )
+}
+
+fn judge_each(
+    buffers: &[u8],
+    blases: &[u8],
+    declared: &[u8],
+    entries: &[u8],
+    geometries: &[u8],
+    head: &[u16; 128],
+    next: &[u16; 512],
+) -> Verdict
+    requires { ⌜ EntriesInside (forEntries (now buffers) (now blases) (now declared) (now entries) (now geometries)) ⌝ }
+    requires { ⌜ Heads (now declared) (now head) × Nexts (now declared) (now next) × (length (now declared) / 18 ≤ 512) ⌝ }
+    ensures { λ r. ⌜
+        verdictOf r
+        ≡ firstDrawing
+        (judgeEntry (forEntries (now (buffers .entry)) (now (blases .entry)) (now (declared .entry)) (now (entries .entry)) (now (geometries .entry))))
+        (geometryCount (forEntries [] [] [] (now (entries .entry)) []))
+        0
+        0
+        (length (now (entries .entry)) / size 5)
+        ⌝ }
+{
+    let n = entries.len() / 5;
+    let mut i: usize = 0;
+    let mut g: usize = 0;
+    while i < n {
+        let count = geometry_count(entries, i);
+        let v = judge_entry(
+            buffers,
+            blases,
+            declared,
+            entries,
+            geometries,
+            head,
+            next,
+            i,
+            g,
+            count,
+        );
+        if let Verdict::Refused(_, _, _) = v {
+            return v;
+        }
+        g += count;
+        i += 1;
+    }
+    Verdict::Passed
+}
+
+// Entries in turn, with section 3 indexed once.
+pub fn judge_entries(
+    buffers: &[u8],
+    blases: &[u8],
+    declared: &[u8],
+    entries: &[u8],
+    geometries: &[u8],
+) -> Verdict
+    requires { ⌜ EntriesInside (forEntries (now buffers) (now blases) (now declared) (now entries) (now geometries)) × Indexable (now declared) ⌝ }
+    ensures { λ r. ⌜
+        verdictOf r ≡ judgeEntries (forEntries (now (buffers .entry)) (now (blases .entry)) (now (declared .entry)) (now (entries .entry)) (now (geometries .entry)))
+        ⌝ }
+{
+    let index = index_declared(declared);
+    let head = index.head;
+    let next = index.next;
+    judge_each(buffers, blases, declared, entries, geometries, &head, &next)
 }
