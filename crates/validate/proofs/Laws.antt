@@ -1,20 +1,27 @@
--- Laws of judging packages: what an instance's cause is at E, and slots by their rule.
-use Prim.Native.Nat.{ℕ, zero, suc, _+_, _*_, _/_, _<_}
+-- Laws of judging packages, of running totals, and of the final checks of one package and of one entry.
+use Prim.Native.Nat.{ℕ, zero, suc, _+_, _-_, _*_, _/_, _≤_, _<_}
 use native.Mathlib.Omega.{arith}
 use mathlib.Core.Path.{_≡_, refl, sym, ap, _∙_}
 use mathlib.Core.Bool.{Bool, true, false, cond}
 use mathlib.Core.List.{List, []}
 use lib.ListN.{length}
-use lib.Dec.{ltb}
-use borrow.Author.Tests.{lt-leb}
+use lib.Dec.{ltb, eqb}
+use borrow.Author.Tests.{lt-leb, eq-eqb, ne-eqb}
 use Rattle.ray_tracing.specs.declared.BuildAccelerationStructureError.{BuildAccelerationStructureError}
+use Rattle.scratch.specs.Scratch.{addRounded}
+use Rattle.ray_tracing.specs.declared.Blas.{Blas}
 use Rattle.ray_tracing.specs.declared.Tlas.{Tlas}
+use Rattle.ray_tracing.specs.declared.BlasBuildEntry.{BlasBuildEntry}
+use Rattle.ray_tracing.specs.declared.TlasPackage.{TlasPackage}
+use Rattle.ray_tracing.specs.Records.{entryAt, packageAt}
+use Rattle.ray_tracing.specs.Reading as reading
+use Rattle.ray_tracing.proofs.Reading.{Only, four, five}
 use Rattle.ray_tracing.specs.Guard.{refuse}
 use Rattle.ray_tracing.specs.Causes.{Cause, cause, bare, buildCause}
 use Rattle.ray_tracing.specs.Mentions.{blasMention, blasOf}
 use Rattle.ray_tracing.specs.Instances.{presentOf, slotMention, slotRule, instanceRule}
-use Rattle.ray_tracing.specs.Plan.{Tables, Verdict, passed, refused, on, _or_, atE, firstOf, slotCount, slotPresent, slotBlas, slotCustomData, tlasOfPackage, judgeSlot, judgePackage}
-use Rattle.ids.specs.Lent.{forPackages}
+use Rattle.ray_tracing.specs.Plan.{Tables, Verdict, passed, refused, on, _or_, atE, firstOf, slotCount, slotPresent, slotBlas, slotCustomData, blasOfEntry, tlasOfPackage, judgeSlot, judgePackage, totalFrom, tlasDestroyed, blasBuildable}
+use Rattle.ids.specs.Lent.{forEntries, forPackages}
 use Rattle.ray_tracing.proofs.Causes.{positive}
 
 pub instance-none : (e f n : ℕ) → bare 0 ≡ bare n → passed ≡ atE e f n
@@ -77,3 +84,72 @@ module _ (blases tlases packages slots : List ℕ) (p s count : ℕ) where
       or on
       (ltb (tlasOfPackage x p .«max_instance_count») (presentOf slots s (slotCount x p)))
       (refused p 0 (cause 36 (presentOf slots s (slotCount x p)) (tlasOfPackage x p .«max_instance_count») 0)))
+
+-- ---- totals, one more size
+
+module _ (f : ℕ → ℕ) (alignment : ℕ) where
+  pub total-start : (n : ℕ) → totalFrom f alignment 0 0 (n - 0) ≡ totalFrom f alignment 0 0 n
+  total-start n = ap (totalFrom f alignment 0 0) (omega arith)
+
+  module _ (total i n : ℕ) where
+    pub total-turn :
+        {t : ℕ} (whole : ℕ)
+        → i < n
+        → t ≡ addRounded total (f i) alignment
+        → totalFrom f alignment total i (n - i) ≡ whole
+        → totalFrom f alignment t (i + 1) (n - (i + 1)) ≡ whole
+    unfolding totalFrom
+    total-turn whole h e left =
+        let m : n - i ≡ suc (n - (i + 1)) = omega arith in
+        rw e (rw m at left)
+
+    pub total-done : n ≤ i → totalFrom f alignment total i (n - i) ≡ total
+    unfolding totalFrom
+    total-done h =
+        let e : n - i ≡ 0 = omega arith in
+        rw e
+
+-- ---- the final checks of one package and of one entry
+
+module _ (tlases packages : List ℕ) (p : ℕ) {built : TlasPackage} {tlas : Tlas} (e : built ≡ packageAt packages (p * 4)) (t : tlas ≡ tlasOfPackage (forPackages [] tlases packages []) p) where
+  pub tlas-refused :
+      tlas .destroyed ≡ 1 → refused p 0 (cause 21 3 (built .tlas .0) 0) ≡ tlasDestroyed (forPackages [] tlases packages []) p
+  tlas-refused h =
+      let z = eq-eqb (tlasOfPackage (forPackages [] tlases packages []) p .destroyed) 1 (sym (ap (λ (y : Tlas). y .destroyed) t) ∙ h) in
+      rw z (ap (λ (y : TlasPackage). refused p 0 (cause 21 3 (y .tlas .0) 0)) e)
+
+  pub tlas-passed : (tlas .destroyed ≡ 1 → ⊥) → passed ≡ tlasDestroyed (forPackages [] tlases packages []) p
+  tlas-passed h =
+      let z = ne-eqb (tlasOfPackage (forPackages [] tlases packages []) p .destroyed) 1 (λ q. h (ap (λ (y : Tlas). y .destroyed) t ∙ q)) in
+      rw z
+
+module _ (blases entries : List ℕ) (i : ℕ) {entry : BlasBuildEntry} {blas : Blas} (e : entry ≡ entryAt entries (i * 5)) (b : blas ≡ blasOfEntry (forEntries [] blases [] entries []) i) where
+  abbrev y : Blas
+  y = blasOfEntry (forEntries [] blases [] entries []) i
+
+  pub blas-refused :
+      blas .destroyed ≡ 1 → refused i 0 (cause 21 2 (entry .blas .0) 0) ≡ blasBuildable (forEntries [] blases [] entries []) i
+  blas-refused h =
+      let z = eq-eqb (y .destroyed) 1 (sym (ap (λ (y : Blas). y .destroyed) b) ∙ h) in
+      rw z (ap (λ (y : BlasBuildEntry). refused i 0 (cause 21 2 (y .blas .0) 0)) e)
+
+  module _ (h : blas .destroyed ≡ 1 → ⊥) where
+    alive : eqb (y .destroyed) 1 ≡ false
+    alive = ne-eqb (y .destroyed) 1 (λ q. h (ap (λ (y : Blas). y .destroyed) b ∙ q))
+
+    pub blas-compacted :
+        blas .«compacted_state» ≡ 3 → refused i 0 (bare 38) ≡ blasBuildable (forEntries [] blases [] entries []) i
+    blas-compacted k =
+        let z = eq-eqb (y .«compacted_state») 3 (sym (ap (λ (y : Blas). y .«compacted_state») b) ∙ k) in
+        rw (alive, z)
+
+    pub blas-passed : (blas .«compacted_state» ≡ 3 → ⊥) → passed ≡ blasBuildable (forEntries [] blases [] entries []) i
+    blas-passed k =
+        let z = ne-eqb (y .«compacted_state») 3 (λ q. k (ap (λ (y : Blas). y .«compacted_state») b ∙ q)) in
+        rw (alive, z)
+
+-- ---- lent tables are refused with 4 or 5
+
+pub only-above : {n p : ℕ} → Only (reading.refused n p) → 4 ≤ n
+only-above four = omega arith
+only-above five = omega arith

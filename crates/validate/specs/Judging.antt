@@ -1,8 +1,11 @@
 -- The judging of a build, up to where only room is left to judge. Assumes nothing.
-use Prim.Native.Nat.{ℕ, _+_, _≤_, _<_}
+use Prim.Native.Nat.{ℕ, _+_, _/_, _≤_, _<_}
 use mathlib.Core.Bool.{true, cond}
 use mathlib.Core.Path.{_≡_}
+use mathlib.Core.List.{List, []}
+use lib.ListN.{length}
 use lib.Dec.{eqb}
+use Rattle.ray_tracing.specs.Layout.{size}
 use Rattle.ray_tracing.specs.Causes.{Cause, bare, buildCause}
 use Rattle.ray_tracing.specs.Plan.{
   Tables,
@@ -17,12 +20,14 @@ use Rattle.ray_tracing.specs.Plan.{
   judgeFinal,
   scratchSize,
   recordsIn,
+  entryOf,
   packageOf,
   slotCount,
   slotPresent,
   slotBlas,
 }
 use Rattle.ray_tracing.proofs.Inside.{slotsBefore}
+use Rattle.ids.specs.Lent.{forEntries, forPackages}
 use Rattle.validate.specs.declared.Judgement.{Judgement}
 use Rattle.validate.specs.declared.Judgement.the-variants as judgement
 
@@ -58,3 +63,12 @@ pub record PackagesInside (x : Tables) : Type 0 where
       → j < slotCount x p
       → slotPresent (x .slots) (slotsBefore x p + j) ≡ true
       → slotBlas (x .slots) (slotsBefore x p + j) < recordsIn x 2
+
+-- the Blases of entries, and the Tlases of packages, are inside their tables
+abbrev pub EntriesNamed : List ℕ → List ℕ → Type 0
+EntriesNamed blases entries =
+    (i : ℕ) → i < length entries / size 5 → entryOf (forEntries [] [] [] entries []) i .blas .0 < length blases / size 2
+
+abbrev pub PackagesNamed : List ℕ → List ℕ → Type 0
+PackagesNamed tlases packages =
+    (p : ℕ) → p < length packages / size 7 → packageOf (forPackages [] [] packages []) p .tlas .0 < length tlases / size 4

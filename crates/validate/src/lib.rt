@@ -26,12 +26,13 @@ ghost use lib.ListN.{length};
 ghost use lib.Dec.{ltb, eqb};
 ghost use Rattle.ray_tracing.specs.Layout.{layout, size};
 ghost use Rattle.ray_tracing.specs.Reading.{judgeLent};
-ghost use Rattle.ray_tracing.specs.Causes.{Cause, cause, bare, judgedOf};
+ghost use Rattle.ray_tracing.specs.Causes.{Cause, cause, bare, buildCause, sheetNumber, judgedOf};
 ghost use Rattle.ray_tracing.specs.Instances.{presentOf, slotMention, slotRule, instanceCause};
-ghost use Rattle.ray_tracing.specs.Plan.{verdictOf, refused, on, _or_, atE, firstOf, firstDrawing, bySection, judgeTables, slotCount, tlasOfPackage, judgeSlot, judgePackage, judgePackages, totalFrom, blasScratch, tlasScratch, blasTotal, tlasTotal, tlasDestroyed, blasBuildable, packageOf, entryOf};
+ghost use Rattle.ray_tracing.specs.Plan.{verdictOf, refused, on, _or_, atE, firstOf, firstDrawing, bySection, judgeTables, slotCount, tlasOfPackage, judgeSlot, judgePackage, judgePackages, totalFrom, blasScratch, tlasScratch, blasTotal, tlasTotal, scratchSize, tlasDestroyed, blasBuildable, packageOf, entryOf};
 ghost use Rattle.ray_tracing.proofs.Inside.{tablesOf, slotsBefore};
+ghost use Rattle.ray_tracing.proofs.Reading.{Only};
 ghost use Rattle.ids.specs.Lent.{forEntries, forPackages};
-ghost use Rattle.validate.specs.Judging.{judgementOf, judgeBuild, PackagesInside};
+ghost use Rattle.validate.specs.Judging.{judgementOf, judgeBuild, PackagesInside, EntriesNamed, PackagesNamed};
 
 // What judging finds: the first refusal, with E; nothing to record; or a build to record, with its scratch size, if there is room.
 pub enum Judgement {
@@ -152,4 +153,247 @@ pub fn judge_packages(blases: &[u8], tlases: &[u8], packages: &[u8], slots: &[u8
         p += 1;
     }
     Verdict::Passed
+}
+
+// Blas scratch runs from 0.
+fn blas_total(alignment: u32, blases: &[u8], entries: &[u8]) -> u64
+    requires { ⌜ (1 ≤ alignment) × EntriesNamed (now blases) (now entries) ⌝ }
+    ensures { λ r. ⌜ r ≡ blasTotal (tablesOf alignment [] (now (blases .entry)) [] [] (now (entries .entry)) [] [] []) ⌝ }
+{
+    let n = entries.len() / 5;
+    let mut total: u64 = 0;
+    let mut i: usize = 0;
+    while i < n {
+        let blas = blas_of_entry(blases, entries, i);
+        total = add_rounded(total, blas.build_scratch_size, alignment as u64);
+        i += 1;
+    }
+    total
+}
+
+// Packages run their own total from 0.
+fn tlas_total(alignment: u32, tlases: &[u8], packages: &[u8]) -> u64
+    requires { ⌜ (1 ≤ alignment) × PackagesNamed (now tlases) (now packages) ⌝ }
+    ensures { λ r. ⌜ r ≡ tlasTotal (tablesOf alignment [] [] [] (now (tlases .entry)) [] [] (now (packages .entry)) []) ⌝ }
+{
+    let n = packages.len() / 4;
+    let mut total: u64 = 0;
+    let mut p: usize = 0;
+    while p < n {
+        let tlas = tlas_of_package(tlases, packages, p);
+        total = add_rounded(total, tlas.build_scratch_size, alignment as u64);
+        p += 1;
+    }
+    total
+}
+
+// They share the scratch.
+pub fn scratch_size(
+    alignment: u32,
+    blases: &[u8],
+    tlases: &[u8],
+    entries: &[u8],
+    packages: &[u8],
+) -> u64
+    requires { ⌜ (1 ≤ alignment) × EntriesNamed (now blases) (now entries) × PackagesNamed (now tlases) (now packages) ⌝ }
+    ensures { λ r. ⌜
+        r
+        ≡ scratchSize
+        (tablesOf alignment [] (now (blases .entry)) [] (now (tlases .entry)) (now (entries .entry)) [] (now (packages .entry)) [])
+        ⌝ }
+{
+    let blas = blas_total(alignment, blases, entries);
+    let tlas = tlas_total(alignment, tlases, packages);
+    if blas < tlas { tlas } else { blas }
+}
+
+// The Tlas of package p is not destroyed.
+fn tlas_destroyed(tlases: &[u8], packages: &[u8], p: usize) -> Verdict
+    requires { ⌜ p * 4 + 4 ≤ length (now packages) ⌝ }
+    requires { ⌜ packageOf (forPackages [] [] (now packages) []) p .tlas .0 < length (now tlases) / size 4 ⌝ }
+    ensures { λ r. ⌜ verdictOf r ≡ tlasDestroyed (forPackages [] (now (tlases .entry)) (now (packages .entry)) []) p ⌝ }
+{
+    let package = package_at(packages, p * 4);
+    let tlas = tlas_of_package(tlases, packages, p);
+    if tlas.destroyed == 1 {
+        let id = package.tlas;
+        return Verdict::Refused(
+            BuildAccelerationStructureError::DestroyedResource(Resource::Tlas(id)),
+            p,
+            0,
+        );
+    }
+    Verdict::Passed
+}
+
+fn tlases_destroyed(tlases: &[u8], packages: &[u8]) -> Verdict
+    requires { ⌜ PackagesNamed (now tlases) (now packages) ⌝ }
+    ensures { λ r. ⌜
+        verdictOf r
+        ≡ firstOf (tlasDestroyed (forPackages [] (now (tlases .entry)) (now (packages .entry)) [])) 0 (length (now (packages .entry)) / size 7)
+        ⌝ }
+{
+    let n = packages.len() / 4;
+    let mut p: usize = 0;
+    while p < n {
+        let v = tlas_destroyed(tlases, packages, p);
+        if let Verdict::Refused(_, _, _) = v {
+            return v;
+        }
+        p += 1;
+    }
+    Verdict::Passed
+}
+
+// The Blas of entry i is not destroyed, and not compacted.
+fn blas_buildable(blases: &[u8], entries: &[u8], i: usize) -> Verdict
+    requires { ⌜ i * 5 + 5 ≤ length (now entries) ⌝ }
+    requires { ⌜ entryOf (forEntries [] [] [] (now entries) []) i .blas .0 < length (now blases) / size 2 ⌝ }
+    ensures { λ r. ⌜ verdictOf r ≡ blasBuildable (forEntries [] (now (blases .entry)) [] (now (entries .entry)) []) i ⌝ }
+{
+    let entry = entry_at(entries, i * 5);
+    let blas = blas_of_entry(blases, entries, i);
+    if blas.destroyed == 1 {
+        let id = entry.blas;
+        return Verdict::Refused(
+            BuildAccelerationStructureError::DestroyedResource(Resource::Blas(id)),
+            i,
+            0,
+        );
+    }
+    if blas.compacted_state == 3 {
+        return Verdict::Refused(BuildAccelerationStructureError::CompactedBlas, i, 0);
+    }
+    Verdict::Passed
+}
+
+fn blases_buildable(blases: &[u8], entries: &[u8]) -> Verdict
+    requires { ⌜ EntriesNamed (now blases) (now entries) ⌝ }
+    ensures { λ r. ⌜
+        verdictOf r
+        ≡ firstOf (blasBuildable (forEntries [] (now (blases .entry)) [] (now (entries .entry)) [])) 0 (length (now (entries .entry)) / size 5)
+        ⌝ }
+{
+    let n = entries.len() / 5;
+    let mut i: usize = 0;
+    while i < n {
+        let v = blas_buildable(blases, entries, i);
+        if let Verdict::Refused(_, _, _) = v {
+            return v;
+        }
+        i += 1;
+    }
+    Verdict::Passed
+}
+
+// 37; Tlases destroyed, 21; per entry 21, 38.
+fn judge_final(
+    size: u64,
+    blases: &[u8],
+    tlases: &[u8],
+    entries: &[u8],
+    packages: &[u8],
+) -> Verdict
+    requires { ⌜ EntriesNamed (now blases) (now entries) × PackagesNamed (now tlases) (now packages) ⌝ }
+    ensures { λ r. ⌜
+        verdictOf r
+        ≡ (on (eqb size (2 ^ 64 - 1)) (refused 0 0 (bare 37))
+        or firstOf
+        (tlasDestroyed (forPackages [] (now (tlases .entry)) (now (packages .entry)) []))
+        0
+        (length (now (packages .entry)) / 4)
+        or firstOf
+        (blasBuildable (forEntries [] (now (blases .entry)) [] (now (entries .entry)) []))
+        0
+        (length (now (entries .entry)) / 5))
+        ⌝ }
+{
+    if size == 18446744073709551615 {
+        return Verdict::Refused(BuildAccelerationStructureError::OutOfMemory, 0, 0);
+    }
+    let v = tlases_destroyed(tlases, packages);
+    first(v, blases_buildable(blases, entries))
+}
+
+// A lent table is refused with 4 or 5 only.
+fn table_error(e: SheetError) -> BuildAccelerationStructureError
+    requires { ⌜ 4 ≤ sheetNumber e ⌝ }
+    ensures { λ r. ⌜ buildCause r ≡ bare (sheetNumber e) ⌝ }
+{
+    match e {
+        SheetError::UnknownVersion => BuildAccelerationStructureError::InvalidValue,
+        SheetError::Truncated => BuildAccelerationStructureError::InvalidValue,
+        SheetError::TrailingBytes => BuildAccelerationStructureError::InvalidValue,
+        SheetError::TooMany => BuildAccelerationStructureError::TooMany,
+        SheetError::InvalidValue => BuildAccelerationStructureError::InvalidValue,
+    }
+}
+
+fn section_verdict(section: usize, j: Judged) -> Verdict
+    requires { ⌜ Only (judgedOf j) ⌝ }
+    ensures { λ r. ⌜ verdictOf r ≡ bySection section (judgedOf j) ⌝ }
+{
+    match j {
+        Judged::Fine => Verdict::Passed,
+        Judged::Refused(e, record) => Verdict::Refused(table_error(e), section, record),
+    }
+}
+
+// The table of a section, after that of the section before.
+fn judge_section(section: usize, before: &[u8], table: &[u8]) -> Verdict
+    requires { ⌜ (0 < section) × (section < 10) ⌝ }
+    ensures { λ r. ⌜
+        verdictOf r
+        ≡ bySection section (judgeLent section (layout section) (size (section - 1)) (now (before .entry)) (now (table .entry)))
+        ⌝ }
+{
+    section_verdict(section, judge_lent(table, section, before))
+}
+
+fn judge_alignment(alignment: u32) -> Verdict
+    ensures { λ r. ⌜ verdictOf r ≡ on (eqb alignment 0) (refused 0 0 (bare 5)) ⌝ }
+{
+    if alignment == 0 {
+        return Verdict::Refused(BuildAccelerationStructureError::InvalidValue, 0, 0);
+    }
+    Verdict::Passed
+}
+
+// Sections 1 to 8, in turn; the scratch alignment before them.
+pub fn judge_tables(
+    alignment: u32,
+    buffers: &[u8],
+    blases: &[u8],
+    declared: &[u8],
+    tlases: &[u8],
+    entries: &[u8],
+    geometries: &[u8],
+    packages: &[u8],
+    slots: &[u8],
+) -> Verdict
+    ensures { λ r. ⌜
+        verdictOf r
+        ≡ judgeTables
+        (tablesOf
+        alignment
+        (now (buffers .entry))
+        (now (blases .entry))
+        (now (declared .entry))
+        (now (tlases .entry))
+        (now (entries .entry))
+        (now (geometries .entry))
+        (now (packages .entry))
+        (now (slots .entry)))
+        ⌝ }
+{
+    let a = judge_alignment(alignment);
+    let v1 = judge_section(1, &buffers[0..0], buffers);
+    let v2 = judge_section(2, buffers, blases);
+    let v3 = judge_section(3, blases, declared);
+    let v4 = judge_section(4, declared, tlases);
+    let v5 = judge_section(5, tlases, entries);
+    let v6 = judge_section(6, entries, geometries);
+    let v7 = judge_section(7, geometries, packages);
+    let v8 = judge_section(8, packages, slots);
+    first(a, first(v1, first(v2, first(v3, first(v4, first(v5, first(v6, first(v7, v8))))))))
 }
