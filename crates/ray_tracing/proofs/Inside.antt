@@ -236,11 +236,11 @@ module _ (x : Tables) (t : judgeTables x ≡ passed) where
       let e : 1 + (k - 1) ≡ k = omega arith in
       rw e at (lent-parts (1 + (k - 1)) (layout (1 + (k - 1))) _ _ _ (lent-fine (k - 1) (omega arith)) .0)
 
-  tables-drawn : drawnBefore x (recordsIn x 5) ≡ recordsIn x 6
+  pub tables-drawn : drawnBefore x (recordsIn x 5) ≡ recordsIn x 6
   unfolding drawnBefore
   tables-drawn = eqb-true _ (recordsIn x 6) (lent-parts 6 (layout 6) _ _ _ (lent-fine 5 (omega arith)) .1)
 
-  tables-slots : slotsBefore x (recordsIn x 7) ≡ recordsIn x 8
+  pub tables-slots : slotsBefore x (recordsIn x 7) ≡ recordsIn x 8
   unfolding slotsBefore
   tables-slots = eqb-true _ (recordsIn x 8) (lent-parts 8 (layout 8) _ _ _ (lent-fine 7 (omega arith)) .1)
 

@@ -2,7 +2,7 @@
 use mathlib.Core.Path.{_≡_, sym, ap, _∙_}
 use lib.Dec.{eqb}
 use Rattle.ray_tracing.specs.Causes.{bare}
-use Rattle.ray_tracing.specs.Plan.{Tables, Verdict, passed, refused, on, _or_, firstOf, judgeSection, judgeTables}
+use Rattle.ray_tracing.specs.Plan.{Tables, Verdict, refused, on, _or_, firstOf, judgeSection, judgeTables}
 use Rattle.ray_tracing.proofs.Verdicts.{or-none}
 
 pub tables-judged :

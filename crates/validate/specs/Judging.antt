@@ -6,7 +6,7 @@ use mathlib.Core.List.{List, []}
 use lib.ListN.{length}
 use lib.Dec.{eqb}
 use Rattle.ray_tracing.specs.Layout.{size}
-use Rattle.ray_tracing.specs.Causes.{Cause, bare, buildCause}
+use Rattle.ray_tracing.specs.Causes.{Cause, buildCause}
 use Rattle.ray_tracing.specs.Plan.{
   Tables,
   Verdict,
@@ -46,11 +46,14 @@ abbrev pub unless : Verdict → Judged → Judged
 unless passed j = j
 unless (refused e f c) j = not-built e f c
 
+-- what is judged in any case
+unfoldable pub judgeRecords : Tables → Verdict
+judgeRecords x = judgeTables x or judgeIds x or judgeEntries x or judgePackages x
+
 -- "Larger total 0: accepted, nothing recorded": what comes after the packages is not judged then
 unfoldable pub judgeBuild : Tables → Judged
 judgeBuild x =
-    unless (judgeTables x or judgeIds x or judgeEntries x or judgePackages x)
-    (cond (eqb (scratchSize x) 0) nothing (unless (judgeFinal x) (to-record (scratchSize x))))
+    unless (judgeRecords x) (cond (eqb (scratchSize x) 0) nothing (unless (judgeFinal x) (to-record (scratchSize x))))
 
 -- what the checks of packages and slots rely on: the records that they read lie within their tables
 pub record PackagesInside (x : Tables) : Type 0 where

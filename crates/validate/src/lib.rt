@@ -1,5 +1,11 @@
 // Judging a build, in the paper's order: tables, ids, entries, packages, the scratch, the final checks. Nothing is written.
-use scratch::add_rounded;
+use entries::blas_of_entry;
+use entries::judge_entries;
+use ids::first;
+use ids::judge_ids;
+use ids::slot_count;
+use instance::check_slot;
+use instance::present_of;
 use ray_tracing::BuildAccelerationStructureError;
 use ray_tracing::CheckedInstance;
 use ray_tracing::Judged;
@@ -10,29 +16,22 @@ use ray_tracing::Verdict;
 use ray_tracing::entry_at;
 use ray_tracing::package_at;
 use ray_tracing::tlas_at;
+use scratch::add_rounded;
 use sheet::judge_lent;
-use instance::check_slot;
-use instance::present_of;
-use ids::first;
-use ids::judge_ids;
-use ids::slot_count;
-use entries::blas_of_entry;
-use entries::judge_entries;
 ghost use mathlib.Core.Path.{_≡_};
-ghost use mathlib.Core.Bool.{true};
 ghost use mathlib.Core.List.{[]};
-ghost use Prim.Native.Nat.{ℕ, _+_, _-_, _*_, _/_, _^_, _≤_, _<_, max};
+ghost use Prim.Native.Nat.{ℕ, _+_, _-_, _*_, _/_, _^_, _≤_, _<_};
 ghost use lib.ListN.{length};
 ghost use lib.Dec.{ltb, eqb};
 ghost use Rattle.ray_tracing.specs.Layout.{layout, size};
 ghost use Rattle.ray_tracing.specs.Reading.{judgeLent};
-ghost use Rattle.ray_tracing.specs.Causes.{Cause, cause, bare, buildCause, sheetNumber, judgedOf};
-ghost use Rattle.ray_tracing.specs.Instances.{presentOf, slotMention, slotRule, instanceCause};
-ghost use Rattle.ray_tracing.specs.Plan.{verdictOf, refused, on, _or_, atE, firstOf, firstDrawing, bySection, judgeTables, slotCount, tlasOfPackage, judgeSlot, judgePackage, judgePackages, totalFrom, blasScratch, tlasScratch, blasTotal, tlasTotal, scratchSize, tlasDestroyed, blasBuildable, packageOf, entryOf};
-ghost use Rattle.ray_tracing.proofs.Inside.{tablesOf, slotsBefore};
+ghost use Rattle.ray_tracing.specs.Causes.{cause, bare, buildCause, sheetNumber, judgedOf};
+ghost use Rattle.ray_tracing.specs.Instances.{slotMention, slotRule, instanceCause};
+ghost use Rattle.ray_tracing.specs.Plan.{verdictOf, refused, on, _or_, atE, firstOf, bySection, judgeTables, slotCount, tlasOfPackage, judgePackage, judgePackages, blasTotal, tlasTotal, scratchSize, tlasDestroyed, blasBuildable, packageOf, entryOf};
+ghost use Rattle.ray_tracing.proofs.Inside.{tablesOf};
 ghost use Rattle.ray_tracing.proofs.Reading.{Only};
 ghost use Rattle.ids.specs.Lent.{forEntries, forPackages};
-ghost use Rattle.validate.specs.Judging.{judgementOf, judgeBuild, PackagesInside, EntriesNamed, PackagesNamed};
+ghost use Rattle.validate.specs.Judging.{judgementOf, judgeRecords, judgeBuild, PackagesInside, EntriesNamed, PackagesNamed};
 
 // What judging finds: the first refusal, with E; nothing to record; or a build to record, with its scratch size, if there is room.
 pub enum Judgement {
@@ -60,14 +59,7 @@ fn judge_slot(tlas: Tlas, blases: &[u8], slots: &[u8], p: usize, j: usize, s: us
 }
 
 // The slots of package p, from slot s on.
-fn judge_slots(
-    tlas: Tlas,
-    blases: &[u8],
-    slots: &[u8],
-    p: usize,
-    s: usize,
-    count: usize,
-) -> Verdict
+fn judge_slots(tlas: Tlas, blases: &[u8], slots: &[u8], p: usize, s: usize, count: usize) -> Verdict
     requires { ⌜ ((s + count) * 56 ≤ length (now slots)) × ((j : ℕ) → j < count → slotMention (now blases) (now slots) ((s + j) * 56) ≡ 0) ⌝ }
     ensures { λ r. ⌜ verdictOf r ≡ firstOf (λ j. atE p j (slotRule tlas (now (blases .entry)) (now (slots .entry)) ((s + j) * 56))) 0 count ⌝ }
 {
@@ -287,13 +279,7 @@ fn blases_buildable(blases: &[u8], entries: &[u8]) -> Verdict
 }
 
 // 37; Tlases destroyed, 21; per entry 21, 38.
-fn judge_final(
-    size: u64,
-    blases: &[u8],
-    tlases: &[u8],
-    entries: &[u8],
-    packages: &[u8],
-) -> Verdict
+fn judge_final(size: u64, blases: &[u8], tlases: &[u8], entries: &[u8], packages: &[u8]) -> Verdict
     requires { ⌜ EntriesNamed (now blases) (now entries) × PackagesNamed (now tlases) (now packages) ⌝ }
     ensures { λ r. ⌜
         verdictOf r
@@ -395,5 +381,123 @@ pub fn judge_tables(
     let v6 = judge_section(6, entries, geometries);
     let v7 = judge_section(7, geometries, packages);
     let v8 = judge_section(8, packages, slots);
-    first(a, first(v1, first(v2, first(v3, first(v4, first(v5, first(v6, first(v7, v8))))))))
+    first(
+        a,
+        first(
+            v1,
+            first(
+                v2,
+                first(v3, first(v4, first(v5, first(v6, first(v7, v8))))),
+            ),
+        ),
+    )
+}
+
+// Tables, ids, entries, packages: what is judged in any case.
+fn judge_records(
+    alignment: u32,
+    buffers: &[u8],
+    blases: &[u8],
+    declared: &[u8],
+    tlases: &[u8],
+    entries: &[u8],
+    geometries: &[u8],
+    packages: &[u8],
+    slots: &[u8],
+) -> Verdict
+    ensures { λ r. ⌜
+        verdictOf r
+        ≡ judgeRecords
+        (tablesOf
+        alignment
+        (now (buffers .entry))
+        (now (blases .entry))
+        (now (declared .entry))
+        (now (tlases .entry))
+        (now (entries .entry))
+        (now (geometries .entry))
+        (now (packages .entry))
+        (now (slots .entry)))
+        ⌝ }
+{
+    let t = judge_tables(
+        alignment,
+        buffers,
+        blases,
+        declared,
+        tlases,
+        entries,
+        geometries,
+        packages,
+        slots,
+    );
+    if let Verdict::Refused(_, _, _) = t {
+        return t;
+    }
+    let i = judge_ids(
+        buffers,
+        blases,
+        tlases,
+        entries,
+        geometries,
+        packages,
+        slots,
+    );
+    if let Verdict::Refused(_, _, _) = i {
+        return i;
+    }
+    let e = judge_entries(buffers, blases, declared, entries, geometries);
+    first(e, judge_packages(blases, tlases, packages, slots))
+}
+
+// A build, up to where only room is left to judge: with a larger total of 0 nothing is recorded, and nothing more is judged.
+pub fn judge_build(
+    alignment: u32,
+    buffers: &[u8],
+    blases: &[u8],
+    declared: &[u8],
+    tlases: &[u8],
+    entries: &[u8],
+    geometries: &[u8],
+    packages: &[u8],
+    slots: &[u8],
+) -> Judgement
+    ensures { λ r. ⌜
+        judgementOf r
+        ≡ judgeBuild
+        (tablesOf
+        alignment
+        (now (buffers .entry))
+        (now (blases .entry))
+        (now (declared .entry))
+        (now (tlases .entry))
+        (now (entries .entry))
+        (now (geometries .entry))
+        (now (packages .entry))
+        (now (slots .entry)))
+        ⌝ }
+{
+    let v = judge_records(
+        alignment,
+        buffers,
+        blases,
+        declared,
+        tlases,
+        entries,
+        geometries,
+        packages,
+        slots,
+    );
+    if let Verdict::Refused(e, i, j) = v {
+        return Judgement::Refused(e, i, j);
+    }
+    let size = scratch_size(alignment, blases, tlases, entries, packages);
+    if size == 0 {
+        return Judgement::Nothing;
+    }
+    let last = judge_final(size, blases, tlases, entries, packages);
+    match last {
+        Verdict::Passed => Judgement::ToRecord(size),
+        Verdict::Refused(e, i, j) => Judgement::Refused(e, i, j),
+    }
 }

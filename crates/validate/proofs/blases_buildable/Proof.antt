@@ -1,3 +1,4 @@
+-- `validate::blases_buildable` meets its contract: what is left from entry i on is the whole.
 use mathlib.Core.Path.{_≡_, sym, ap, _∙_}
 use mathlib.Core.List.{[]}
 use Prim.Native.Nat.{_-_, _≤_}
@@ -7,9 +8,6 @@ use Rattle.ids.specs.Lent.{forEntries}
 use borrow.Author.Needs.{needs}
 use Rattle.validate.proofs.blases_buildable.Statement.{statement}
 use Rattle.validate.proofs.blases_buildable.Tie as tie
-use Rattle.validate.proofs.blases_buildable.Reads as reads
-use Rattle.validate.proofs.blases_buildable.Lts as lts
-use Rattle.validate.proofs.blas_buildable.Reads as blas-buildable-reads
 
 abbrev Inv-loop : tie.InvT-loop
 Inv-loop blases entries n i₀ i = (i ≤ n) × (firstOf (blasBuildable (forEntries [] blases [] entries [])) i (n - i) ≡ firstOf (blasBuildable (forEntries [] blases [] entries [])) 0 n)
@@ -17,38 +15,18 @@ Inv-loop blases entries n i₀ i = (i ≤ n) × (firstOf (blasBuildable (forEntr
 abbrev μ-loop : tie.MeasureT-loop
 μ-loop blases entries n i₀ i = n - i
 
--- src/lib.rt:279:5
 loop-holds : tie.Need-loop-holds Inv-loop μ-loop
 loop-holds c = (search needs, from-start _ _)
 
--- src/lib.rt:280:13
 blas-buildable-requires : tie.Need-blas-buildable-requires Inv-loop μ-loop
 blas-buildable-requires c κs = (search needs, c .before .before .before .before .pre (c .before .loop .i) (c .loop-test .taken))
 
--- src/lib.rt:282:13
-enum-told : tie.Need-enum-told Inv-loop μ-loop
-enum-told c = search needs
-
--- src/lib.rt:282:13
 returns : tie.Need-returns Inv-loop μ-loop
 returns c = found _ _ _ _ (c .before .before .before .before .loop .inv .1) (c .before .before .before .loop-test .taken) _ _ _ (c .before .before .blas-buildable .ensures) (ap verdictOf (c .enum-told .given .1))
 
-enum-told-2 : tie.Need-enum-told-2 Inv-loop μ-loop
-enum-told-2 c = search needs
-
--- src/lib.rt:284:9
-add-i : tie.Need-add-i Inv-loop μ-loop
-add-i c = search needs
-
--- src/lib.rt:279:5
-loop-less : tie.Need-loop-less Inv-loop μ-loop
-loop-less c = search needs
-
--- src/lib.rt:279:5
 loop-again : tie.Need-loop-again Inv-loop μ-loop
 loop-again c = (search needs, onward _ _ _ _ (c .before .before .before .before .loop .inv .1) (c .before .before .before .loop-test .taken) (sym (c .before .before .blas-buildable .ensures) ∙ ap verdictOf (c .enum-told2 .given .1)))
 
--- src/lib.rt:270:1
 returns-2 : tie.Need-returns-2 Inv-loop μ-loop
 returns-2 c = ended _ _ _ _ (c .before .loop .inv .1) (c .loop-test .left)
 
@@ -60,10 +38,10 @@ blases-buildable-spec =
     μ-loop
     loop-holds
     blas-buildable-requires
-    enum-told
+    (λ c. search needs)
     returns
-    enum-told-2
-    add-i
-    loop-less
+    (λ c. search needs)
+    (λ c. search needs)
+    (λ c. search needs)
     loop-again
     returns-2)

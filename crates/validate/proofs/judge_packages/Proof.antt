@@ -1,3 +1,4 @@
+-- `validate::judge_packages` meets its contract: what is left from package p on, whose slots stand from s on, is the whole.
 use Rattle.validate.proofs.Laws.{slot-named}
 use mathlib.Core.Path.{_≡_, sym, ap, _∙_}
 use Prim.Native.Nat.{_+_, _-_, _≤_}
@@ -9,10 +10,6 @@ use Rattle.ids.specs.Lent.{forPackages}
 use borrow.Author.Needs.{needs}
 use Rattle.validate.proofs.judge_packages.Statement.{statement}
 use Rattle.validate.proofs.judge_packages.Tie as tie
-use Rattle.validate.proofs.judge_packages.Reads as reads
-use Rattle.validate.proofs.judge_packages.Lts as lts
-use Rattle.ids.proofs.slot_count.Reads as slot-count-reads
-use Rattle.validate.proofs.judge_package.Reads as judge-package-reads
 
 abbrev Inv-loop : tie.InvT-loop
 Inv-loop blases tlases packages slots n p₀ s₀ p s = (p ≤ n) × (s ≡ slotsBefore (forPackages blases tlases packages slots) p) × (firstDrawing (judgePackage (forPackages blases tlases packages slots)) (slotCount (forPackages blases tlases packages slots)) p s (n - p) ≡ firstDrawing (judgePackage (forPackages blases tlases packages slots)) (slotCount (forPackages blases tlases packages slots)) 0 0 n)
@@ -20,47 +17,22 @@ Inv-loop blases tlases packages slots n p₀ s₀ p s = (p ≤ n) × (s ≡ slot
 abbrev μ-loop : tie.MeasureT-loop
 μ-loop blases tlases packages slots n p₀ s₀ p s = n - p
 
--- src/lib.rt:145:5
 loop-holds : tie.Need-loop-holds Inv-loop μ-loop
 loop-holds c = (search needs, sym (slots-none _), from-start-drawing _ _ _)
 
--- src/lib.rt:146:13
-slot-count-requires : tie.Need-slot-count-requires Inv-loop μ-loop
-slot-count-requires c κs = search needs
-
--- src/lib.rt:147:13
 judge-package-requires : tie.Need-judge-package-requires Inv-loop μ-loop
 judge-package-requires c κs = let a = c .before .before .before .before .before .before .before .args in let x = forPackages (a .blases .now) (a .tlases .now) (a .packages .now) (a .slots .now) in let l = c .before .before .loop in let t = c .before .loop-test .taken in let h = c .before .before .before .before .before .before .before .pre in let n = c .slot-count .ensures in let d = h .drawn (l .p) t in ((search needs, h .tlas (l .p) t), ((omega arith, λ j k. rw (l .inv .1) (slot-named (a .blases .now) (a .slots .now) (slotsBefore x (l .p) + j) (h .blas (l .p) j t (omega arith)))), (n, omega arith)))
 
--- src/lib.rt:149:13
-enum-told : tie.Need-enum-told Inv-loop μ-loop
-enum-told c = search needs
-
--- src/lib.rt:149:13
 returns : tie.Need-returns Inv-loop μ-loop
 unfolding judgePackages
 returns c = found-drawing _ _ _ _ _ _ (c .before .before .before .before .before .loop .inv .2) (c .before .before .before .before .loop-test .taken) _ _ _ (c .before .before .judge-package .ensures) (ap verdictOf (c .enum-told .given .1))
 
-enum-told-2 : tie.Need-enum-told-2 Inv-loop μ-loop
-enum-told-2 c = search needs
-
--- src/lib.rt:151:9
 add-s : tie.Need-add-s Inv-loop μ-loop
 add-s c = omega (arith, c .before .before .before .before .before .before .before .before .before .before .pre .drawn (c .before .before .before .before .before .loop .p) (c .before .before .before .before .loop-test .taken), c .before .before .before .slot-count .ensures)
 
--- src/lib.rt:152:9
-add-p : tie.Need-add-p Inv-loop μ-loop
-add-p c = search needs
-
--- src/lib.rt:145:5
-loop-less : tie.Need-loop-less Inv-loop μ-loop
-loop-less c = search needs
-
--- src/lib.rt:145:5
 loop-again : tie.Need-loop-again Inv-loop μ-loop
 loop-again c = let a = c .before .before .before .before .before .before .before .before .before .before .args in let x = forPackages (a .blases .now) (a .tlases .now) (a .packages .now) (a .slots .now) in (search needs, omega (arith, slots-more x (c .before .before .before .before .before .loop .p), c .before .before .before .slot-count .ensures), rw (c .before .before .before .slot-count .ensures) (onward-drawing _ _ _ _ _ _ (c .before .before .before .before .before .loop .inv .2) (c .before .before .before .before .loop-test .taken) (sym (c .before .before .judge-package .ensures) ∙ ap verdictOf (c .enum-told2 .given .1))))
 
--- src/lib.rt:135:1
 returns-2 : tie.Need-returns-2 Inv-loop μ-loop
 unfolding judgePackages
 returns-2 c = ended-drawing _ _ _ _ _ _ (c .before .loop .inv .2) (c .loop-test .left)
@@ -72,13 +44,13 @@ judge-packages-spec =
     Inv-loop
     μ-loop
     loop-holds
-    slot-count-requires
+    (λ c κs. search needs)
     judge-package-requires
-    enum-told
+    (λ c. search needs)
     returns
-    enum-told-2
+    (λ c. search needs)
     add-s
-    add-p
-    loop-less
+    (λ c. search needs)
+    (λ c. search needs)
     loop-again
     returns-2)

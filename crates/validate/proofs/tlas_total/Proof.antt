@@ -1,7 +1,7 @@
+-- `validate::tlas_total` meets its contract: the total of what is left from package p on, added to what is there, is the whole.
 use mathlib.Core.Path.{_≡_, sym, ap, _∙_}
 use mathlib.Core.List.{[]}
-use Prim.Native.Nat.{ℕ, _+_, _-_, _≤_}
-use native.Mathlib.Omega.{arith}
+use Prim.Native.Nat.{_-_, _≤_}
 use Rattle.scratch.specs.Scratch.{addRounded}
 use Rattle.ray_tracing.specs.declared.Tlas.{Tlas}
 use Rattle.ray_tracing.specs.Plan.{totalFrom, tlasScratch}
@@ -10,10 +10,6 @@ use Rattle.validate.proofs.Laws.{total-start, total-turn, total-done}
 use borrow.Author.Needs.{needs}
 use Rattle.validate.proofs.tlas_total.Statement.{statement}
 use Rattle.validate.proofs.tlas_total.Tie as tie
-use Rattle.validate.proofs.tlas_total.Reads as reads
-use Rattle.validate.proofs.tlas_total.Lts as lts
-use Rattle.scratch.proofs.add_rounded.Reads as add-rounded-reads
-use Rattle.validate.proofs.tlas_of_package.Reads as tlas-of-package-reads
 
 abbrev Inv-loop : tie.InvT-loop
 Inv-loop alignment tlases packages n total₀ p₀ total p = (p ≤ n) × (totalFrom (tlasScratch (forPackages [] tlases packages [])) alignment total p (n - p) ≡ totalFrom (tlasScratch (forPackages [] tlases packages [])) alignment 0 0 n)
@@ -21,31 +17,15 @@ Inv-loop alignment tlases packages n total₀ p₀ total p = (p ≤ n) × (total
 abbrev μ-loop : tie.MeasureT-loop
 μ-loop alignment tlases packages n total₀ p₀ total p = n - p
 
--- src/lib.rt:182:5
 loop-holds : tie.Need-loop-holds Inv-loop μ-loop
 loop-holds c = (search needs, total-start _ _ _)
 
--- src/lib.rt:183:13
 tlas-of-package-requires : tie.Need-tlas-of-package-requires Inv-loop μ-loop
 tlas-of-package-requires c κs = (search needs, c .before .before .before .before .pre .1 (c .before .loop .p) (c .loop-test .taken))
 
--- src/lib.rt:184:9
-add-rounded-requires : tie.Need-add-rounded-requires Inv-loop μ-loop
-add-rounded-requires c κs = search needs
-
--- src/lib.rt:185:9
-add-p : tie.Need-add-p Inv-loop μ-loop
-add-p c = search needs
-
--- src/lib.rt:182:5
-loop-less : tie.Need-loop-less Inv-loop μ-loop
-loop-less c = search needs
-
--- src/lib.rt:182:5
 loop-again : tie.Need-loop-again Inv-loop μ-loop
 loop-again c = let a = c .before .before .before .before .before .before .args in let l = c .before .before .before .loop in (search needs, total-turn (tlasScratch (forPackages [] (a .tlases .now) (a .packages .now) [])) (a .alignment) (l .total) (l .p) _ _ (c .before .before .loop-test .taken) (c .add-rounded .ensures ∙ ap (λ (y : Tlas). addRounded (l .total) (y .«build_scratch_size») (a .alignment)) (c .before .tlas-of-package .ensures)) (l .inv .1))
 
--- src/lib.rt:175:1
 returns : tie.Need-returns Inv-loop μ-loop
 returns c = let a = c .before .before .before .before .args in let l = c .before .loop in sym (total-done (tlasScratch (forPackages [] (a .tlases .now) (a .packages .now) [])) (a .alignment) (l .total) (l .p) _ (c .loop-test .left)) ∙ l .inv .1
 
@@ -57,8 +37,8 @@ tlas-total-spec =
     μ-loop
     loop-holds
     tlas-of-package-requires
-    add-rounded-requires
-    add-p
-    loop-less
+    (λ c κs. search needs)
+    (λ c. search needs)
+    (λ c. search needs)
     loop-again
     returns)
