@@ -56,14 +56,12 @@ put-more l at i ws w h e p q =
     ∙ sym (words-snoc (take i ws) (getD ws i 0))
     ∙ ap words (sym (take-suc ws i 0 h) ∙ ap (λ (n : ℕ). take n ws) (sym (add-one i))))
 
--- four writes end to end
-pub sets-four : (l : List ℕ) {l₁ l₂ l₃ l₄ : List ℕ} (at m n p : ℕ) (A B C D : List ℕ) → l₁ ≡ sets l at A → l₂ ≡ sets l₁ (at + m) B → l₃ ≡ sets l₂ (at + (m + n)) C → l₄ ≡ sets l₃ (at + (m + n + p)) D
-    → length A ≡ m → length B ≡ n → length C ≡ p → l₄ ≡ sets l at (A ++ (B ++ (C ++ D)))
-sets-four l at m n p A B C D e₁ e₂ e₃ e₄ a b c =
+-- three writes end to end
+pub sets-three : (l : List ℕ) {l₁ l₂ l₃ : List ℕ} (at m n : ℕ) (A B C : List ℕ) → l₁ ≡ sets l at A → l₂ ≡ sets l₁ (at + m) B → l₃ ≡ sets l₂ (at + n) C
+    → length A ≡ m → m + length B ≡ n → l₃ ≡ sets l at (A ++ (B ++ C))
+sets-three l at m n A B C e₁ e₂ e₃ a b =
     let s₂ = sets-then l at (at + m) A B e₁ e₂ (omega arith) in
-    let s₃ = sets-then l at (at + (m + n)) (A ++ B) C s₂ e₃ (omega (arith, length-append A B)) in
-    sets-then l at (at + (m + n + p)) ((A ++ B) ++ C) D s₃ e₄ (omega (arith, length-append A B, length-append (A ++ B) C))
-    ∙ ap (sets l at) (append-assoc (A ++ B) C D ∙ append-assoc A B (C ++ D))
+    sets-then l at (at + n) (A ++ B) C s₂ e₃ (omega (arith, length-append A B)) ∙ ap (sets l at) (append-assoc A B C)
 
 -- ---- 34, 35
 

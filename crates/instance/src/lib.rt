@@ -27,7 +27,7 @@ ghost use lib.Ieee.{binary32, ofBits, nanBits};
 ghost use Rattle.ray_tracing.specs.Records.{fieldAt};
 ghost use Rattle.ray_tracing.specs.Causes.{bare};
 ghost use Rattle.ray_tracing.specs.Mentions.{mentionOf, blasOf};
-ghost use Rattle.ray_tracing.specs.Instances.{nanOf, bitsOf, patterns, words, instanceBytes, instanceFrom, instanceAt, presentAt, slotBytes, slotsBytes, presentOf, returnsVertices, instanceRule, namedInstanceRule, namedTlasRule, slotMention, slotRule, instanceCause, appendedOf, appendRule, appendBytes};
+ghost use Rattle.ray_tracing.specs.Instances.{nanOf, bitsOf, patterns, words, tailBytes, instanceBytes, wordsAt, instanceFrom, presentAt, slotBytes, slotsBytes, presentOf, returnsVertices, instanceRule, namedInstanceRule, namedTlasRule, slotMention, slotRule, instanceCause, appendedOf, appendRule, appendBytes};
 ghost use Rattle.instance.specs.Writable.{Writable};
 
 // A number, and the pattern that it was read from where that is a NaN's, else 0.
@@ -107,6 +107,16 @@ pub fn put_transform(out: &mut [u8], at: usize, transform: [f32; 12], nan_bits: 
     }
 }
 
+// The 16 bytes after the transform.
+fn put_tail(out: &mut [u8], at: usize, custom_data: u32, mask: u8, address: u64)
+    requires { ⌜ (at + 16 ≤ length (now out)) × («custom_data» < 2 ^ 24) ⌝ }
+    ensures { λ _. ⌜ now (out .exit) ≡ sets (now (out .entry)) at (tailBytes «custom_data» mask address) ⌝ }
+{
+    put_u32(out, at, custom_data + 16777216 * (mask as u32));
+    put_u32(out, at + 4, 0);
+    put_u64(out, at + 8, address);
+}
+
 pub fn put_instance(out: &mut [u8], at: usize, instance: TlasInstance, address: u64)
     requires { ⌜ (at + 64 ≤ length (now out)) × (instance .«custom_data» < 2 ^ 24) ⌝ }
     ensures { λ _. ⌜ now (out .exit) ≡ sets (now (out .entry)) at (instanceBytes instance address) ⌝ }
@@ -114,13 +124,7 @@ pub fn put_instance(out: &mut [u8], at: usize, instance: TlasInstance, address: 
     let transform = instance.transform;
     let nan_bits = instance.nan_bits;
     put_transform(out, at, transform, nan_bits);
-    put_u32(
-        out,
-        at + 48,
-        instance.custom_data + 16777216 * (instance.mask as u32),
-    );
-    put_u32(out, at + 52, 0);
-    put_u64(out, at + 56, address);
+    put_tail(out, at + 48, instance.custom_data, instance.mask, address);
 }
 
 fn returns_vertices(flags: u8) -> bool
@@ -239,7 +243,33 @@ pub fn check_slot(tlas: Tlas, blases: &[u8], slots: &[u8], at: usize) -> Checked
     check_instance(tlas, blas_at(blases, id * 28), u32_at(slots, at + 3))
 }
 
-// Writes what the slot at a place writes, from index end on, and returns the index past it.
+// A transform's numbers by their bits: all are read before one is written, so that four go at a time.
+fn words_at(s: &[u8], at: usize) -> [u32; 12]
+    requires { ⌜ at + 48 ≤ length (now s) ⌝ }
+    ensures { λ r. ⌜ r ≡ wordsAt 12 (now (s .entry)) at ⌝ }
+{
+    let mut ws = [0u32; 12];
+    let mut k = 0;
+    while k < 12 {
+        ws[k] = u32_at(s, at + 4 * k);
+        k += 1;
+    }
+    ws
+}
+
+fn put_words(out: &mut [u8], at: usize, ws: [u32; 12])
+    requires { ⌜ at + 48 ≤ length (now out) ⌝ }
+    ensures { λ _. ⌜ now (out .exit) ≡ sets (now (out .entry)) at (words ws) ⌝ }
+{
+    let mut k = 0;
+    while k < 12 {
+        put_u32(out, at + 4 * k, ws[k]);
+        k += 1;
+    }
+}
+
+// Writes what the slot at a place writes, from index end on, and returns the index past it. The slot's numbers are copied by their
+// bits, which gives the bytes of its instance, whatever the patterns.
 pub fn put_slot(blases: &[u8], slots: &[u8], at: usize, instances: &mut [u8], end: usize) -> usize
     requires { ⌜ (at + 56 ≤ length (now slots)) × (end + length (slotBytes (now blases) (now slots) at) ≤ length (now instances)) ⌝ }
     requires { ⌜ ((fieldAt 8 (now slots) at 0 ≡ 0 → ⊥) → Writable (now blases) (now slots) at) ⌝ }
@@ -249,9 +279,11 @@ pub fn put_slot(blases: &[u8], slots: &[u8], at: usize, instances: &mut [u8], en
     if u8_at(slots, at) == 0 {
         return end;
     }
-    let instance = instance_from(slots, at + 1);
-    let address = address_of(blases, instance.blas);
-    put_instance(instances, end, instance, address);
+    let address = address_of(blases, BlasId(u16_at(slots, at + 1)));
+    let custom_data = u32_at(slots, at + 3);
+    let mask = u8_at(slots, at + 7);
+    put_words(instances, end, words_at(slots, at + 8));
+    put_tail(instances, end + 48, custom_data, mask, address);
     end + 64
 }
 

@@ -17,7 +17,8 @@ use Rattle.wire.proofs.Laws.{length-leBytes, leBytes-split, leBytes-low, leByte
 use Rattle.wire.proofs.Laws as wire
 use Rattle.ray_tracing.specs.declared.TlasInstance.{TlasInstance}
 use Rattle.ray_tracing.specs.Records.{fieldAt}
-use Rattle.ray_tracing.specs.Instances.{nanOf, bitsOf, patterns, words, instanceBytes, VkAccelerationStructureInstanceKHR, vkInstance, vkBytes, wordsAt, instanceFrom, instanceAt, presentAt, addressFor, slotBytes, slotsBytes, presentOf}
+use Rattle.ray_tracing.specs.Mentions.{blasOf}
+use Rattle.ray_tracing.specs.Instances.{nanOf, bitsOf, patterns, words, tailBytes, instanceBytes, VkAccelerationStructureInstanceKHR, vkInstance, vkBytes, wordsAt, instanceFrom, instanceAt, presentAt, addressFor, slotBytes, slotsBytes, presentOf}
 use Rattle.ray_tracing.proofs.Numbers.{bits-back}
 
 -- ---- u32s end to end
@@ -200,15 +201,19 @@ module _ (s : List ℕ) (at : ℕ) where
   pub from-length : (address : ℕ) → length (instanceBytes (instanceFrom s at) address) ≡ 64
   from-length address = bytes-length (instanceFrom s at) address (from-lengths .0) (from-lengths .1)
 
+  -- the patterns of an instance that was read are those that it was read from
+  pub patterns-read : Below s → patterns (instanceFrom s at .transform) (instanceFrom s at .«nan_bits») ≡ wordsAt 12 s (at + 7)
+  unfolding instanceFrom
+  patterns-read b = patterns-back (wordsAt 12 s (at + 7)) (small-words 12 s (at + 7) b)
+
   -- the first 48 bytes of the record of an instance that was read are the 48 that its numbers were read from
   pub transform-back : (address : ℕ) → Below s → at + 55 ≤ length s → take 48 (instanceBytes (instanceFrom s at) address) ≡ take 48 (drop (at + 7) s)
-  unfolding instanceFrom instanceBytes
+  unfolding instanceBytes
   transform-back address b h =
-      let ws = wordsAt 12 s (at + 7) in
-      let xs = map (ofBits binary32) ws in
-      let ns = map nanOf ws in
+      let xs = instanceFrom s at .transform in
+      let ns = instanceFrom s at .«nan_bits» in
       take-at (words (patterns xs ns)) _ 48 (transform-length xs ns (from-lengths .0) (from-lengths .1))
-      ∙ ap words (patterns-back ws (small-words 12 s (at + 7) b))
+      ∙ ap words (patterns-read b)
       ∙ words-back 12 s (at + 7) b (omega arith)
 
 -- ---- slots
@@ -236,6 +241,15 @@ module _ (s : List ℕ) (at : ℕ) where
     pub slot-some : (fieldAt 8 s at 0 ≡ 0 → ⊥) → slotBytes blases s at ≡ instanceBytes (instanceAt s at) (addressFor blases (instanceAt s at))
     unfolding slotBytes
     slot-some h = rw (ne-eqb (fieldAt 8 s at 0) 0 h)
+
+    -- field by field of the layout
+    pub slot-copied : Below s → (fieldAt 8 s at 0 ≡ 0 → ⊥)
+        → slotBytes blases s at ≡ words (wordsAt 12 s (at + 8)) ++ tailBytes (fieldAt 8 s at 2) (fieldAt 8 s at 3) (blasOf blases (fieldAt 8 s at 1) .handle)
+    unfolding instanceBytes
+    slot-copied b h =
+        let matrix = patterns-read s (at + 1) b ∙ ap (wordsAt 12 s) (add-assoc at 1 7) in
+        let address = ap (λ (id : ℕ). blasOf blases id .handle) slot-blas in
+        slot-some h ∙ (λ j. words (matrix j) ++ tailBytes (slot-custom j) (slot-mask j) (address j))
 
     pub slot-some-length : (fieldAt 8 s at 0 ≡ 0 → ⊥) → length (slotBytes blases s at) ≡ 64
     slot-some-length h = ap length (slot-some h) ∙ from-length s (at + 1) (addressFor blases (instanceAt s at))

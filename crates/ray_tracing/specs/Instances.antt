@@ -44,11 +44,13 @@ unfoldable pub words : List ℕ → List ℕ
 words [] = []
 words (w ∷ ws) = leBytes 4 w ++ words ws
 
--- "Its 64 bytes are those numbers by their bits, custom data in the low 24 bits with the mask above, a zero u32, the address u64."
+-- "custom data in the low 24 bits with the mask above, a zero u32, the address u64"
+abbrev pub tailBytes : ℕ → ℕ → ℕ → List ℕ
+tailBytes custom-data mask address = leBytes 4 (custom-data + 2 ^ 24 * mask) ++ (leBytes 4 0 ++ leBytes 8 address)
+
+-- "Its 64 bytes are those numbers by their bits", then those
 unfoldable pub instanceBytes : TlasInstance → ℕ → List ℕ
-instanceBytes i address =
-    words (patterns (i .transform) (i .«nan_bits»))
-    ++ (leBytes 4 (i .«custom_data» + 2 ^ 24 * i .mask) ++ (leBytes 4 0 ++ leBytes 8 address))
+instanceBytes i address = words (patterns (i .transform) (i .«nan_bits»)) ++ tailBytes (i .«custom_data») (i .mask) address
 
 -- VK_KHR_acceleration_structure
 
