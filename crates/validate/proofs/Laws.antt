@@ -123,30 +123,19 @@ module _ (tlases packages : List ℕ) (p : ℕ) {built : TlasPackage} {tlas : Tl
       let z = ne-eqb (tlasOfPackage (forPackages [] tlases packages []) p .destroyed) 1 (λ q. h (ap (λ (y : Tlas). y .destroyed) t ∙ q)) in
       rw z
 
-module _ (blases entries : List ℕ) (i : ℕ) {entry : BlasBuildEntry} {blas : Blas} (e : entry ≡ entryAt entries (i * 5)) (b : blas ≡ blasOfEntry (forEntries [] blases [] entries []) i) where
-  abbrev y : Blas
-  y = blasOfEntry (forEntries [] blases [] entries []) i
-
-  pub blas-refused :
-      blas .destroyed ≡ 1 → refused i 0 (cause 21 2 (entry .blas .0) 0) ≡ blasBuildable (forEntries [] blases [] entries []) i
-  blas-refused h =
-      let z = eq-eqb (y .destroyed) 1 (sym (ap (λ (y : Blas). y .destroyed) b) ∙ h) in
-      rw z (ap (λ (y : BlasBuildEntry). refused i 0 (cause 21 2 (y .blas .0) 0)) e)
-
-  module _ (h : blas .destroyed ≡ 1 → ⊥) where
-    alive : eqb (y .destroyed) 1 ≡ false
-    alive = ne-eqb (y .destroyed) 1 (λ q. h (ap (λ (y : Blas). y .destroyed) b ∙ q))
-
-    pub blas-compacted :
-        blas .«compacted_state» ≡ 3 → refused i 0 (bare 38) ≡ blasBuildable (forEntries [] blases [] entries []) i
-    blas-compacted k =
-        let z = eq-eqb (y .«compacted_state») 3 (sym (ap (λ (y : Blas). y .«compacted_state») b) ∙ k) in
-        rw (alive, z)
-
-    pub blas-passed : (blas .«compacted_state» ≡ 3 → ⊥) → passed ≡ blasBuildable (forEntries [] blases [] entries []) i
-    blas-passed k =
-        let z = ne-eqb (y .«compacted_state») 3 (λ q. k (ap (λ (y : Blas). y .«compacted_state») b ∙ q)) in
-        rw (alive, z)
+pub blas-judged :
+    (blases entries : List ℕ) (i : ℕ) {entry : BlasBuildEntry} {blas : Blas} {v : Verdict}
+    → entry ≡ entryAt entries (i * 5)
+    → blas ≡ blasOfEntry (forEntries [] blases [] entries []) i
+    → v
+    ≡ (on (eqb (blas .destroyed) 1) (refused i 0 (cause 21 2 (entry .blas .0) 0))
+    or on (eqb (blas .«compacted_state») 3) (refused i 0 (bare 38)))
+    → v ≡ blasBuildable (forEntries [] blases [] entries []) i
+blas-judged blases entries i e b v =
+    v
+    ∙ (λ k.
+    on (eqb (b k .destroyed) 1) (refused i 0 (cause 21 2 (e k .blas .0) 0))
+    or on (eqb (b k .«compacted_state») 3) (refused i 0 (bare 38)))
 
 -- ---- lent tables are refused with 4 or 5
 

@@ -6,6 +6,8 @@ use ids::judge_ids;
 use ids::slot_count;
 use instance::check_slot;
 use instance::present_of;
+use ray_tracing::Blas;
+use ray_tracing::BlasId;
 use ray_tracing::BuildAccelerationStructureError;
 use ray_tracing::CheckedInstance;
 use ray_tracing::Judged;
@@ -20,7 +22,7 @@ use scratch::add_rounded;
 use sheet::judge_lent;
 ghost use mathlib.Core.Path.{_≡_};
 ghost use mathlib.Core.List.{[]};
-ghost use Prim.Native.Nat.{ℕ, _+_, _-_, _*_, _/_, _^_, _≤_, _<_};
+ghost use Prim.Native.Nat.{ℕ, _+_, _-_, _*_, _/_, _^_, _≤_, _<_, max};
 ghost use lib.ListN.{length};
 ghost use lib.Dec.{ltb, eqb};
 ghost use Rattle.ray_tracing.specs.Layout.{layout, size};
@@ -90,7 +92,7 @@ fn judge_present(present: usize, most: u32, p: usize) -> Verdict
 }
 
 // The Tlas of package p.
-pub fn tlas_of_package(tlases: &[u8], packages: &[u8], p: usize) -> Tlas
+fn tlas_of_package(tlases: &[u8], packages: &[u8], p: usize) -> Tlas
     requires { ⌜ p * 4 + 4 ≤ length (now packages) ⌝ }
     requires { ⌜ packageOf (forPackages [] [] (now packages) []) p .tlas .0 < length (now tlases) / size 4 ⌝ }
     ensures { λ r. ⌜ r ≡ tlasOfPackage (forPackages [] (now (tlases .entry)) (now (packages .entry)) []) p ⌝ }
@@ -125,7 +127,7 @@ fn judge_package(
 }
 
 // Packages in turn.
-pub fn judge_packages(blases: &[u8], tlases: &[u8], packages: &[u8], slots: &[u8]) -> Verdict
+fn judge_packages(blases: &[u8], tlases: &[u8], packages: &[u8], slots: &[u8]) -> Verdict
     requires { ⌜ PackagesInside (forPackages (now blases) (now tlases) (now packages) (now slots)) ⌝ }
     ensures { λ r. ⌜
         verdictOf r
@@ -169,7 +171,7 @@ fn tlas_total(alignment: u32, tlases: &[u8], packages: &[u8]) -> u64
     ensures { λ r. ⌜ r ≡ tlasTotal (tablesOf alignment [] [] [] (now (tlases .entry)) [] [] (now (packages .entry)) []) ⌝ }
 {
     let n = packages.len() / 4;
-    let mut total: u64 = 0;
+    let mut total = 0u64;
     let mut p: usize = 0;
     while p < n {
         let tlas = tlas_of_package(tlases, packages, p);
@@ -179,8 +181,14 @@ fn tlas_total(alignment: u32, tlases: &[u8], packages: &[u8]) -> u64
     total
 }
 
+fn larger(a: u64, b: u64) -> u64
+    ensures { λ r. ⌜ r ≡ max a b ⌝ }
+{
+    if a < b { b } else { a }
+}
+
 // They share the scratch.
-pub fn scratch_size(
+fn scratch_size(
     alignment: u32,
     blases: &[u8],
     tlases: &[u8],
@@ -196,7 +204,7 @@ pub fn scratch_size(
 {
     let blas = blas_total(alignment, blases, entries);
     let tlas = tlas_total(alignment, tlases, packages);
-    if blas < tlas { tlas } else { blas }
+    larger(blas, tlas)
 }
 
 // The Tlas of package p is not destroyed.
@@ -237,16 +245,15 @@ fn tlases_destroyed(tlases: &[u8], packages: &[u8]) -> Verdict
     Verdict::Passed
 }
 
-// The Blas of entry i is not destroyed, and not compacted.
-fn blas_buildable(blases: &[u8], entries: &[u8], i: usize) -> Verdict
-    requires { ⌜ i * 5 + 5 ≤ length (now entries) ⌝ }
-    requires { ⌜ entryOf (forEntries [] [] [] (now entries) []) i .blas .0 < length (now blases) / size 2 ⌝ }
-    ensures { λ r. ⌜ verdictOf r ≡ blasBuildable (forEntries [] (now (blases .entry)) [] (now (entries .entry)) []) i ⌝ }
+// A Blas to build is not destroyed, and not compacted.
+fn buildable(blas: Blas, id: BlasId, i: usize) -> Verdict
+    ensures { λ r. ⌜
+        verdictOf r
+        ≡ (on (eqb (blas .destroyed) 1) (refused i 0 (cause 21 2 (id .0) 0))
+        or on (eqb (blas .«compacted_state») 3) (refused i 0 (bare 38)))
+        ⌝ }
 {
-    let entry = entry_at(entries, i * 5);
-    let blas = blas_of_entry(blases, entries, i);
     if blas.destroyed == 1 {
-        let id = entry.blas;
         return Verdict::Refused(
             BuildAccelerationStructureError::DestroyedResource(Resource::Blas(id)),
             i,
@@ -257,6 +264,16 @@ fn blas_buildable(blases: &[u8], entries: &[u8], i: usize) -> Verdict
         return Verdict::Refused(BuildAccelerationStructureError::CompactedBlas, i, 0);
     }
     Verdict::Passed
+}
+
+fn blas_buildable(blases: &[u8], entries: &[u8], i: usize) -> Verdict
+    requires { ⌜ i * 5 + 5 ≤ length (now entries) ⌝ }
+    requires { ⌜ entryOf (forEntries [] [] [] (now entries) []) i .blas .0 < length (now blases) / size 2 ⌝ }
+    ensures { λ r. ⌜ verdictOf r ≡ blasBuildable (forEntries [] (now (blases .entry)) [] (now (entries .entry)) []) i ⌝ }
+{
+    let entry = entry_at(entries, i * 5);
+    let blas = blas_of_entry(blases, entries, i);
+    buildable(blas, entry.blas, i)
 }
 
 fn blases_buildable(blases: &[u8], entries: &[u8]) -> Verdict
@@ -346,7 +363,7 @@ fn judge_alignment(alignment: u32) -> Verdict
 }
 
 // Sections 1 to 8, in turn; the scratch alignment before them.
-pub fn judge_tables(
+fn judge_tables(
     alignment: u32,
     buffers: &[u8],
     blases: &[u8],

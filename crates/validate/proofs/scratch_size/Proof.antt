@@ -8,9 +8,6 @@ returns : tie.Need-returns
 unfolding scratchSize
 returns c = search needs
 
-returns-2 : tie.Need-returns-2
-unfolding scratchSize
-returns-2 c = search needs
-
 pub scratch-size-spec : {M : Type 1} → statement M
-scratch-size-spec = tie.close (tie.spec (λ c κs. search needs) (λ c κs. search needs) returns returns-2)
+scratch-size-spec =
+    tie.close (tie.spec (λ c κs. search needs) (λ c κs. search needs) (λ c κs. search needs) returns)
