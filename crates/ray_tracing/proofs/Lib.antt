@@ -25,4 +25,8 @@ pub mod Demand3
 pub mod Decode
 pub mod Applied
 pub mod Plan
+pub mod Stretches
+pub mod Staged
+pub mod RecordedAction
+pub mod PlanLaws
 pub mod Lent

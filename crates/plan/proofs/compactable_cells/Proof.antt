@@ -1,0 +1,17 @@
+-- `plan::compactable_cells` meets its contract: one cell if the flag is set, else none.
+use mathlib.Core.Path.{sym, ap}
+use lib.ListN.{length}
+use Rattle.plan.specs.Parts.{ofEntries}
+use Rattle.plan.proofs.Laws.{compactable-some, compactable-not}
+use borrow.Author.Needs.{needs}
+use Rattle.plan.proofs.compactable_cells.Statement.{statement}
+use Rattle.plan.proofs.compactable_cells.Tie as tie
+
+returns : tie.Need-returns
+returns c = (sym (ap length (compactable-some (ofEntries (c .before .before .before .before .before .args .blases .now) (c .before .before .before .before .before .args .entries .now)) _ (c .before .before .blas-of-entry .ensures) (c .if1 .taken))), search needs)
+
+returns-2 : tie.Need-returns-2
+returns-2 c = (sym (ap length (compactable-not (ofEntries (c .before .before .before .before .before .args .blases .now) (c .before .before .before .before .before .args .entries .now)) _ (c .before .before .blas-of-entry .ensures) (c .if1 .left))), search needs)
+
+pub compactable-cells-spec : {M : Type 1} → statement M
+compactable-cells-spec = tie.close (tie.spec (λ c κs. search needs) returns returns-2)
