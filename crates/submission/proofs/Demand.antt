@@ -26,10 +26,10 @@ pub validate-is-call :
     (i : CommandIndices) (x : Buffers) (a l : List ℕ) (v : Validated) (j : CommandIndices) (y : Buffers)
     → Validates i x a l v j y
     → Told-call
-      (lent (i .«next_acceleration_structure_build_command_index») x)
-      (pieceOf a l)
-      v
-      (lent (j .«next_acceleration_structure_build_command_index») y)
+    (lent (i .«next_acceleration_structure_build_command_index») x)
+    (pieceOf a l)
+    v
+    (lent (j .«next_acceleration_structure_build_command_index») y)
 validate-is-call i x a l v j y e =
     go (submission (lent (i .«next_acceleration_structure_build_command_index») x) (decode (pieceOf a l))) refl
   where
@@ -37,10 +37,10 @@ validate-is-call i x a l v j y e =
         (o : Outcome)
         → submission (lent (i .«next_acceleration_structure_build_command_index») x) (decode (pieceOf a l)) ≡ o
         → Told-call
-          (lent (i .«next_acceleration_structure_build_command_index») x)
-          (pieceOf a l)
-          v
-          (lent (j .«next_acceleration_structure_build_command_index») y)
+        (lent (i .«next_acceleration_structure_build_command_index») x)
+        (pieceOf a l)
+        v
+        (lent (j .«next_acceleration_structure_build_command_index») y)
     go (b leaving m) p =
         let t : toldOf v (y .blases) (y .tlases) (y .dependencyCounts) (y .dependencies) ≡ told (b leaving m) = rw p at (e .tells) in
         let q : lent (j .«next_acceleration_structure_build_command_index») y ≡ m = rw (e .counter) (ap (λ (s : Told). s .left) t) in

@@ -1,3 +1,4 @@
+-- `actions::blas_of` meets its contract: each return is the definition's own case. Assumes nothing.
 use Rattle.ray_tracing.specs.Submission.{blasIn}
 use borrow.Author.Needs.{needs}
 use Rattle.actions.proofs.blas_of.Statement.{statement}

@@ -1,3 +1,4 @@
+-- `actions::build` meets its contract: each return is the definition's own case. Assumes nothing.
 use mathlib.Core.List.{[]}
 use Rattle.actions.proofs.Steps.{WholeBuild, whole-build, build-acts}
 use Rattle.actions.specs.Outcome.{lentOf}

@@ -1,3 +1,4 @@
+-- `actions::build_action` meets its contract: each return is the definition's own case. Assumes nothing.
 use Rattle.actions.proofs.Walks.{nothing}
 use Rattle.actions.proofs.Steps.{step-refused, step-acted, before-tables}
 use Rattle.actions.proofs.Start.{ready}

@@ -1,3 +1,4 @@
+-- `actions::build_tlas` meets its contract: each return is the definition's own case. Assumes nothing.
 use Rattle.actions.proofs.Acting.{tlas-refused, tlas-built}
 use Rattle.actions.specs.Outcome.{lentOf, packageOf, stepped}
 use mathlib.Core.Path.{refl}

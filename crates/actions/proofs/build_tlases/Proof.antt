@@ -1,3 +1,4 @@
+-- `actions::build_tlases` meets its contract: the invariant says that what is left to do, done from here, is what the whole was to be. Assumes nothing.
 use Rattle.actions.proofs.Packages.{packages-step, packages-done}
 use Rattle.actions.proofs.Acting.{tlases-stop, tlases-go-on, tlases-done}
 use Rattle.actions.proofs.Turns.{Going, Turn, turn, listed-part}

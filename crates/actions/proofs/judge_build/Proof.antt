@@ -1,3 +1,4 @@
+-- `actions::judge_build` meets its contract: each return is the definition's own case. Assumes nothing.
 use Rattle.actions.proofs.Judging.{build-short, build-cut, build-whole, before-malformed}
 use native.Mathlib.Nat.{add-sub-cancel-left}
 use mathlib.Core.Path.{sym, _∙_}

@@ -1,3 +1,4 @@
+-- `actions::judge_counts` meets its contract: the invariant says that what is left to do, done from here, is what the whole was to be. Assumes nothing.
 use Rattle.actions.proofs.Walks.{found, passed, ends}
 use Rattle.actions.proofs.Packages.{packages-step, packages-done, lent-first, lent-rest, tooLong, is-long, not-long, many-tlases, few-tlases}
 use Rattle.ray_tracing.specs.Submission.{first, packagesAt, packagesLent, tooMany, pastPackage}

@@ -1,3 +1,4 @@
+-- `actions::judge_mentions` meets its contract: each return is the definition's own case. Assumes nothing.
 use Rattle.actions.proofs.Walks.{or-stop, or-pass}
 use borrow.Author.Needs.{needs}
 use Rattle.actions.proofs.judge_mentions.Statement.{statement}

@@ -1,3 +1,4 @@
+-- `actions::judge_package` meets its contract: each return is the definition's own case. Assumes nothing.
 use Rattle.actions.proofs.Walks.{or-stop, or-pass}
 use native.Mathlib.Nat.{add-sub-cancel-left}
 use native.Mathlib.Omega.{arith}

@@ -1,3 +1,4 @@
+-- `actions::judge_packages` meets its contract: the invariant says that what is left to do, done from here, is what the whole was to be. Assumes nothing.
 use Rattle.actions.proofs.Walks.{stops, goes-on, ends}
 use Rattle.actions.proofs.Packages.{packages-step, packages-done, lent-first, lent-rest}
 use Rattle.actions.specs.Outcome.{tablesOf}

@@ -1,3 +1,4 @@
+-- `actions::judge_whole_build` meets its contract: each return is the definition's own case. Assumes nothing.
 use Rattle.ray_tracing.specs.Submission.{packagesAt}
 use Rattle.actions.proofs.Judging.{many-blases, refused-4, refused-6, known-ids, refused-40, judged-41}
 use Rattle.actions.specs.Outcome.{lentOf}

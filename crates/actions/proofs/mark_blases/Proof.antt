@@ -1,3 +1,4 @@
+-- `actions::mark_blases` meets its contract: the invariant says that what is left to do, done from here, is what the whole was to be. Assumes nothing.
 use Rattle.actions.proofs.Acting.{mark-step, mark-done}
 use Rattle.ray_tracing.specs.Submission.{builtBlases}
 use lib.ListN.{length, drop}

@@ -1,3 +1,4 @@
+-- `actions::packages_lent` meets its contract: the invariant says that what is left to do, done from here, is what the whole was to be. Assumes nothing.
 use Rattle.actions.proofs.Packages.{lent-step, lent-short, lent-done}
 use Rattle.ray_tracing.specs.Submission.{packagesLent}
 use lib.ListN.{length}

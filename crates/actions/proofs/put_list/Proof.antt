@@ -1,3 +1,4 @@
+-- `actions::put_list` meets its contract: the invariant says that what is left to do, done from here, is what the whole was to be. Assumes nothing.
 use Rattle.actions.proofs.Acting.{copy-step, copy-done}
 use native.Mathlib.Nat.{add-zero}
 use lib.ListN.{length, drop, length-set}

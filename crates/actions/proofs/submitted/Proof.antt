@@ -1,3 +1,4 @@
+-- `actions::submitted` meets its contract: each return is the definition's own case. Assumes nothing.
 use borrow.Author.Needs.{needs}
 use Rattle.actions.proofs.submitted.Statement.{statement}
 use Rattle.actions.proofs.submitted.Tie as tie

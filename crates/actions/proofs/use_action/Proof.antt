@@ -1,3 +1,4 @@
+-- `actions::use_action` meets its contract: each return is the definition's own case. Assumes nothing.
 use Rattle.actions.specs.Known.{tlasesIn}
 use Prim.Native.Nat.{_<_}
 use Rattle.actions.proofs.Walks.{nothing}

@@ -1,3 +1,4 @@
+-- `actions::use_blas` meets its contract: each return is the definition's own case. Assumes nothing.
 use borrow.Author.Tests.{eq-eqb, ne-eqb, lt-ltb, le-ltb}
 use borrow.Author.Needs.{needs}
 use Rattle.actions.proofs.use_blas.Statement.{statement}

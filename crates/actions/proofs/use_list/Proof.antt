@@ -1,3 +1,4 @@
+-- `actions::use_list` meets its contract: the invariant says that what is left to do, done from here, is what the whole was to be. Assumes nothing.
 use Rattle.actions.proofs.Walks.{rest-step, rest-done, stops, goes-on, ends}
 use Rattle.actions.specs.Outcome.{lentOf}
 use Rattle.ray_tracing.specs.Submission as Submission

@@ -1,3 +1,4 @@
+-- `actions::use_tlas` meets its contract: each return is the definition's own case. Assumes nothing.
 use Rattle.actions.proofs.Start.{tlas-number, unnumbered-use, numbered-use}
 use Rattle.actions.specs.Outcome.{lentOf}
 use Rattle.ray_tracing.specs.Submission.{listIn}

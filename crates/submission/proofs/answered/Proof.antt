@@ -1,3 +1,4 @@
+-- `submission::answered` meets its contract: each return is the definition's own case. Assumes nothing.
 use borrow.Author.Needs.{needs}
 use Rattle.submission.proofs.answered.Statement.{statement}
 use Rattle.submission.proofs.answered.Tie as tie

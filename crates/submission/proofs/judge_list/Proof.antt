@@ -1,3 +1,4 @@
+-- `submission::judge_list` meets its contract: each return is the definition's own case. Assumes nothing.
 use borrow.Author.Tests.{lt-ltb, le-ltb}
 use native.Mathlib.Nat.{add-sub-cancel-left}
 use native.Mathlib.Omega.{arith}

@@ -1,3 +1,4 @@
+-- `submission::judge_lists` meets its contract: the invariant says that what is left to do, done from here, is what the whole was to be. Assumes nothing.
 use native.Mathlib.Nat.{sub-zero}
 use Rattle.submission.proofs.Lists.{lists-stop, lists-go-on, lists-done}
 use Rattle.actions.specs.Outcome.{lentOf}

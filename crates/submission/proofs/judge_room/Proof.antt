@@ -1,3 +1,4 @@
+-- `submission::judge_room` meets its contract: each return is the definition's own case. Assumes nothing.
 use borrow.Author.Tests.{lt-ltb, le-ltb}
 use borrow.Author.Needs.{needs}
 use Rattle.submission.proofs.judge_room.Statement.{statement}

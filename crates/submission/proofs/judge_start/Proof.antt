@@ -1,3 +1,4 @@
+-- `submission::judge_start` meets its contract: each return is the definition's own case. Assumes nothing.
 use Rattle.actions.proofs.Walks.{nothing, or-stop, or-pass}
 use Rattle.submission.proofs.Lists.{lists-look}
 use Rattle.submission.proofs.Start.{few-of-table}

@@ -1,3 +1,4 @@
+-- `submission::judge_table` meets its contract: each return is the definition's own case. Assumes nothing.
 use Rattle.ray_tracing.proofs.Lent.{lent-tabular}
 use Rattle.submission.proofs.Start.{table-fine, table-number, table-refused}
 use Rattle.ray_tracing.specs.Layout.{layout, size}

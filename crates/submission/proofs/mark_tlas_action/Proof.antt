@@ -1,3 +1,4 @@
+-- `submission::mark_tlas_action` meets its contract: each return is the definition's own case. Assumes nothing.
 use Rattle.ray_tracing.specs.Submission.{packagesAt, packagesLent}
 use Rattle.actions.proofs.Walks.{nothing}
 use Rattle.actions.proofs.Steps.{step-refused}

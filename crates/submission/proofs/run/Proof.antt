@@ -1,3 +1,4 @@
+-- `submission::run` meets its contract: the invariant says that what is left to do, done from here, is what the whole was to be. Assumes nothing.
 use Rattle.submission.proofs.Running.{Running, run-stop, run-go-on, run-sound, run-part, run-done}
 use Rattle.actions.specs.Outcome.{lentOf}
 use Rattle.ray_tracing.specs.Submission as Submission

@@ -1,3 +1,4 @@
+-- `submission::step` meets its contract: each return is the definition's own case. Assumes nothing.
 use Rattle.submission.proofs.ByKind.{kind-build, kind-use, kind-mark-blas, kind-mark-tlas, kind-none, malformed-step}
 use borrow.Author.Needs.{needs}
 use Rattle.submission.proofs.step.Statement.{statement}

@@ -1,3 +1,4 @@
+-- `submission::table_error` meets its contract: each return is the definition's own case. Assumes nothing.
 use types.Run.{OneOf, miss}
 use denote.Enum.Declared.{tagOf}
 use Rattle.ray_tracing.proofs.SheetError as T
