@@ -1,0 +1,119 @@
+//! A library with the exported functions, made of the second reading: to try the harness, the header and the bindings where
+//! the static library isn't there. Nothing of it is proved, and it is not to be used for anything else.
+#![allow(clippy::missing_safety_doc, clippy::too_many_arguments, dead_code)]
+
+#[path = "src/layout.rs"]
+mod layout;
+#[path = "src/reading.rs"]
+mod reading;
+#[path = "src/side.rs"]
+mod side;
+
+use side::{Lent, Outputs, Side};
+use std::slice::{from_raw_parts as lent, from_raw_parts_mut as lent_mut};
+
+/// The fault that ORACLE_FAULT names.
+fn reading() -> reading::Reading {
+    let fault = std::env::var("ORACLE_FAULT").ok().and_then(|f| f.parse().ok()).unwrap_or(0);
+    reading::Reading { fault }
+}
+
+#[repr(C)]
+pub struct Numbers<const N: usize>([u64; N]);
+
+#[no_mangle]
+pub unsafe extern "C" fn zakvind_read_sheet(sheet: *const u8, n: usize) -> Numbers<23> {
+    Numbers(reading().read_sheet(lent(sheet, n)))
+}
+
+#[no_mangle]
+pub unsafe extern "C" fn zakvind_build(
+    alignment: u32,
+    t0: *const u8,
+    n0: usize,
+    t1: *const u8,
+    n1: usize,
+    t2: *const u8,
+    n2: usize,
+    t3: *const u8,
+    n3: usize,
+    t4: *const u8,
+    n4: usize,
+    t5: *const u8,
+    n5: usize,
+    t6: *const u8,
+    n6: usize,
+    t7: *const u8,
+    n7: usize,
+    o0: *mut u64,
+    m0: usize,
+    o1: *mut u64,
+    m1: usize,
+    o2: *mut u64,
+    m2: usize,
+    o3: *mut u8,
+    m3: usize,
+    o4: *mut u64,
+    m4: usize,
+    o5: *mut u16,
+    m5: usize,
+    o6: *mut u16,
+    m6: usize,
+) -> Numbers<15> {
+    let tables = [lent(t0, n0), lent(t1, n1), lent(t2, n2), lent(t3, n3), lent(t4, n4), lent(t5, n5), lent(t6, n6), lent(t7, n7)];
+    let out = Outputs {
+        blas_offsets: lent_mut(o0, m0),
+        tlas_offsets: lent_mut(o1, m1),
+        staging_ranges: lent_mut(o2, m2),
+        instances: lent_mut(o3, m3),
+        init_ranges: lent_mut(o4, m4),
+        compactable: lent_mut(o5, m5),
+        lists: lent_mut(o6, m6),
+    };
+    Numbers(reading().build(alignment, tables, out))
+}
+
+#[no_mangle]
+pub unsafe extern "C" fn zakvind_submit(
+    indices: *mut [u64; 2],
+    blases: *mut u8,
+    n0: usize,
+    tlases: *mut u8,
+    n1: usize,
+    dependency_counts: *mut u16,
+    n2: usize,
+    dependencies: *mut u16,
+    n3: usize,
+    actions: *const u32,
+    n4: usize,
+    lists: *const u16,
+    n5: usize,
+) -> Numbers<4> {
+    let changed = Lent {
+        blases: lent_mut(blases, n0),
+        tlases: lent_mut(tlases, n1),
+        dependency_counts: lent_mut(dependency_counts, n2),
+        dependencies: lent_mut(dependencies, n3),
+    };
+    Numbers(reading().submit(&mut *indices, changed, lent(actions, n4), lent(lists, n5)))
+}
+
+#[no_mangle]
+pub unsafe extern "C" fn zakvind_append_instance(
+    tlases: *const u8,
+    n0: usize,
+    blases: *const u8,
+    n1: usize,
+    tlas: u16,
+    instance: *const [u8; 55],
+    instances: *mut u8,
+    n2: usize,
+    used: u64,
+) -> Numbers<7> {
+    Numbers(reading().append(lent(tlases, n0), lent(blases, n1), tlas, &*instance, lent_mut(instances, n2), used))
+}
+
+#[no_mangle]
+pub unsafe extern "C" fn zakvind_report(sheet: *const u8, n: usize, out: *mut u8, m: usize) -> Numbers<2> {
+    Numbers(reading().report(lent(sheet, n), lent_mut(out, m)))
+}

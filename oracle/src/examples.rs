@@ -1,0 +1,188 @@
+//! The paper's worked sheet and its eight examples, with some more of its sentences: what is expected is written here, and
+//! the Rust and what is compared with it must both answer so.
+use crate::layout::*;
+use crate::rust_side::RustSide;
+use crate::side::{Case, Side};
+
+const TOP: u64 = u64::MAX;
+
+fn worked() -> Raw {
+    let mut raw = Raw { version: 1, alignment: 256, counter: 1, ..Raw::default() };
+    raw.push(BUFFERS, &[36, 1]);
+    raw.push(BLASES, &[0, 0, 0, 0, 300, 0, 0]);
+    raw.push(DECLARED, &[0, 0, 3, 1, 12, 4, 0, 0, 0]);
+    raw.push(TLASES, &[0, 0, 100, 1, 0]);
+    raw.push(ENTRIES, &[0, 0, 1]);
+    raw.push(GEOMETRIES, &[0, 3, 0, 12, 0, 1, 0, NONE, 0, 0, 0, 0, NONE, 0, 0]);
+    raw.push(PACKAGES, &[0, 1]);
+    raw.push(SLOTS, &{
+        let mut slot = [0; 16];
+        slot[slot::PRESENT] = 1;
+        slot
+    });
+    raw.push(ACTIONS, &[1, 0]);
+    raw.push(ACTIONS, &[2, 0]);
+    raw
+}
+
+fn with(change: impl FnOnce(&mut Raw)) -> Vec<u8> {
+    let mut raw = worked();
+    change(&mut raw);
+    raw.sheet()
+}
+
+/// The transform's buffer has `size` bytes.
+fn transformed(size: u64) -> Vec<u8> {
+    with(|r| {
+        r.push(BUFFERS, &[size, 1]);
+        r.set(BLASES, 0, blas::FLAGS, 1);
+        r.set(GEOMETRIES, 0, geometry::TRANSFORM_BUFFER, 1);
+        r.set(GEOMETRIES, 0, geometry::TRANSFORM_PRESENT, 1);
+    })
+}
+
+/// An index buffer of 2^40 bytes, with this format and first index.
+fn indexed(format: u64, first: u64) -> Vec<u8> {
+    with(|r| {
+        r.push(BUFFERS, &[1 << 40, 1]);
+        r.sections[DECLARED] = vec![0, 0, 3, 1, 12, 4, format, 1, 3];
+        r.sections[GEOMETRIES] = vec![0, 3, 0, 12, 0, 1, format, 1, 1, 3, 1, first, NONE, 0, 0];
+    })
+}
+
+fn boxes(count: u64) -> Vec<u8> {
+    with(|r| {
+        r.set(BUFFERS, 0, buffer::SIZE, 1 << 40);
+        r.set(BLASES, 0, blas::KIND, 1);
+        r.set(DECLARED, 0, declared::COUNT, u32::MAX.into());
+        r.set(ENTRIES, 0, entry::KIND, 1);
+        r.sections[GEOMETRIES] = vec![0, count, 0, 24, 0, 0, 0, NONE, 0, 0, 0, 0, NONE, 0, 0];
+    })
+}
+
+/// Blas scratch 300 and 10, Tlas scratch 1,000, no geometries; with the package or without.
+fn totals(packages: bool) -> Vec<u8> {
+    with(|r| {
+        r.push(BLASES, &[0, 0, 0, 0, 10, 0, 0]);
+        r.set(TLASES, 0, tlas::SCRATCH, 1000);
+        r.sections[ENTRIES] = vec![0, 0, 0, 1, 0, 0];
+        r.sections[GEOMETRIES].clear();
+        r.sections[ACTIONS].clear();
+        if !packages {
+            r.sections[PACKAGES].clear();
+            r.sections[SLOTS].clear();
+        }
+    })
+}
+
+fn sheets() -> Vec<(&'static str, Vec<u8>, &'static str)> {
+    let passes = "build 0 0 0 0 0 0\n";
+    let set = |section, field, value| with(|r| r.set(section, 0, field, value));
+    vec![
+        ("worked sheet", worked().sheet(), "build 0 0 0 0 0 0\nscratch 512\nblas 0 0\ntlas 0 0 0 64\nsubmit 0 0 0 0\nnext 2\n"),
+        ("1: custom data 16,777,215", set(SLOTS, slot::CUSTOM_DATA, 16_777_215), passes),
+        ("1: custom data 16,777,216", set(SLOTS, slot::CUSTOM_DATA, 16_777_216), "build 34 0 0 0 0 0\n"),
+        ("2: transform of 48 bytes", transformed(48), passes),
+        ("2: of 47", transformed(47), "build 23 0 0 0 48 47\n"),
+        ("3: two-byte first index 2,147,483,648", indexed(1, 1 << 31), "build 26 0 0 4294967296 2147483648 2\n"),
+        ("4: 178,956,971 boxes of 24", boxes(178_956_971), "build 26 0 0 4294967304 178956971 24\n"),
+        ("4: one fewer", boxes(178_956_970), passes),
+        (
+            "5: an empty list of the other kind",
+            with(|r| {
+                r.sections[ENTRIES] = vec![0, 1, 0];
+                r.sections[GEOMETRIES].clear();
+            }),
+            passes,
+        ),
+        ("5: not empty", set(ENTRIES, entry::KIND, 1), "build 10 0 0 0 0 0\n"),
+        (
+            "6: offsets 0, 512; size 1,024",
+            totals(true),
+            "build 0 0 0 0 0 0\nscratch 1024\nblas 0 0\nblas 1 512\ntlas 0 0 0 64\nsubmit 0 0 0 0\nnext 1\n",
+        ),
+        ("6: Blases alone", totals(false), "build 0 0 0 0 0 0\nscratch 768\nblas 0 0\nblas 1 512\nsubmit 0 0 0 0\nnext 1\n"),
+        ("37 by rounding", set(BLASES, blas::SCRATCH, TOP), "build 37 0 0 0 0 0\n"),
+        (
+            "zero scratch returns first",
+            with(|r| {
+                r.sections[BLASES] = vec![0, 0, 3, 1, 0, 0, 0];
+                r.sections[TLASES] = vec![0, 1, 0, 1, 0];
+                r.set(ACTIONS, 0, 1, 7);
+            }),
+            "build 0 0 0 0 0 0\nsubmit 43 1 0 0\nnext 1\n",
+        ),
+        ("38", set(BLASES, blas::STATE, 3), "build 38 0 0 0 0 0\n"),
+        ("25: index format none", indexed(0, 0), "build 25 0 0 0 0 0\n"),
+        (
+            "35 counts absent slots",
+            with(|r| {
+                r.sections[TLASES] = vec![2, 0, 1, 5, 0];
+                r.set(PACKAGES, 0, package::COUNT, 3);
+                r.insert(SLOTS, 0, &[0; 16]);
+                r.insert(SLOTS, 0, &[0; 16]);
+            }),
+            "build 35 0 2 0 0 0\n",
+        ),
+        ("a cut sheet", worked().sheet()[..24].to_vec(), "sheet 2 24\n"),
+        ("a byte more", [worked().sheet(), vec![0]].concat(), "sheet 3 223\n"),
+        ("another version", vec![2], "sheet 1 0\n"),
+        ("a data buffer 65535", set(GEOMETRIES, geometry::BUFFER, NONE), "sheet 5 124\n"),
+    ]
+}
+
+/// Answers and counters of submissions on what the one before left.
+type Answers = Vec<([u64; 4], u64)>;
+
+fn submissions() -> Vec<(&'static str, Case, Answers)> {
+    let start = |counter: u64, tlases: usize, pieces: Vec<(Vec<u32>, Vec<u16>)>| Case::Submit {
+        indices: [0, counter],
+        blases: vec![0; 28],
+        tlases: vec![0; 22 * tlases],
+        dependency_counts: vec![0; tlases],
+        dependencies: vec![0; 512 * tlases],
+        pieces,
+    };
+    let build = (vec![1, 0, 1, 0], vec![0]);
+    vec![
+        (
+            "7",
+            start(5, 1, vec![(vec![1, 0, 1, 1, 2, 0, 0, 0], vec![0, 0, 1, 0]), (vec![3, 0, 0, 0, 2, 0, 0, 0], vec![])]),
+            vec![([0; 4], 6), ([44, 1, 0, 0], 7)],
+        ),
+        ("8", start(TOP, 0, vec![build.clone(), build.clone()]), vec![([0; 4], 0), ([40, 0, 0, 0], 0)]),
+        ("8 in one", start(TOP, 0, vec![(vec![1, 0, 1, 0, 1, 0, 1, 0], vec![0])]), vec![([40, 1, 0, 0], 0)]),
+    ]
+}
+
+/// Says which answers are not as expected; `true` where all are.
+pub fn run(other: Option<(&mut dyn Side, &str)>) -> bool {
+    let mut rust = RustSide::checked();
+    let mut sides: Vec<(&mut dyn Side, &str)> = vec![(&mut rust, "the Rust")];
+    sides.extend(other);
+    let mut bad = 0;
+    let mut count = 0;
+    for (side, name) in sides {
+        for (what, sheet, expected) in sheets() {
+            let mut out = vec![0; 1 << 16];
+            let answer = side.report(&sheet, &mut out);
+            let text = String::from_utf8_lossy(&out[..answer[1] as usize]).into_owned();
+            count += 1;
+            if !text.starts_with(expected) {
+                bad += 1;
+                println!("{name}: {what}: expected\n{expected}got\n{text}");
+            }
+        }
+        for (what, case, expected) in submissions() {
+            let parts = case.run(side, 0);
+            let answers: Answers = parts.chunks(7).map(|p| (p[0].values.clone().try_into().unwrap(), p[1].values[1])).collect();
+            count += 1;
+            if answers != expected {
+                bad += 1;
+                println!("{name}: example {what}: expected {expected:?}, got {answers:?}");
+            }
+        }
+    }
+    println!("examples: {count} answers, {bad} not as expected");
+    bad == 0
+}

@@ -1,0 +1,77 @@
+//! The static library, through the Rust binding.
+use crate::side::{Lent, Outputs, Side};
+use zakvind::raw;
+
+pub struct Library;
+
+impl Side for Library {
+    fn read_sheet(&mut self, sheet: &[u8]) -> [u64; 23] {
+        let a = raw::read_sheet(sheet);
+        let mut answer = [0; 23];
+        answer[..5].copy_from_slice(&[a.number, a.place, a.version, a.alignment, a.counter]);
+        for (k, s) in a.sections.iter().enumerate() {
+            (answer[5 + 2 * k], answer[6 + 2 * k]) = (s.start, s.count);
+        }
+        answer
+    }
+
+    fn build(&mut self, alignment: u32, tables: [&[u8]; 8], out: Outputs) -> [u64; 15] {
+        let out = zakvind::Outputs {
+            blas_offsets: out.blas_offsets,
+            tlas_offsets: out.tlas_offsets,
+            staging_ranges: out.staging_ranges,
+            instances: out.instances,
+            init_ranges: out.init_ranges,
+            compactable: out.compactable,
+            lists: out.lists,
+        };
+        let a = raw::build(alignment, tables, out);
+        let mut answer = [0; 15];
+        answer[..8].copy_from_slice(&[
+            a.number,
+            a.e[0],
+            a.e[1],
+            a.figures[0],
+            a.figures[1],
+            a.figures[2],
+            a.recorded,
+            a.scratch_size,
+        ]);
+        answer[8..].copy_from_slice(&a.written);
+        answer
+    }
+
+    fn submit(&mut self, indices: &mut [u64; 2], lent: Lent, actions: &[u32], lists: &[u16]) -> [u64; 4] {
+        let mut i = raw::CommandIndices {
+            active_submission_index: indices[0],
+            next_acceleration_structure_build_command_index: indices[1],
+        };
+        let lent = zakvind::Lent {
+            blases: lent.blases,
+            tlases: lent.tlases,
+            dependency_counts: lent.dependency_counts,
+            dependencies: lent.dependencies,
+        };
+        let a = raw::submit(&mut i, lent, actions, lists);
+        *indices = [i.active_submission_index, i.next_acceleration_structure_build_command_index];
+        [a.number, a.action, a.figures[0], a.figures[1]]
+    }
+
+    fn append(
+        &mut self,
+        tlases: &[u8],
+        blases: &[u8],
+        tlas: u16,
+        instance: &[u8; 55],
+        instances: &mut [u8],
+        used: u64,
+    ) -> [u64; 7] {
+        let a = raw::append_instance(tlases, blases, tlas, instance, instances, used);
+        [a.number, a.e[0], a.e[1], a.figures[0], a.figures[1], a.figures[2], a.used]
+    }
+
+    fn report(&mut self, sheet: &[u8], out: &mut [u8]) -> [u64; 2] {
+        let a = raw::report(sheet, out);
+        [a.number, a.written]
+    }
+}

@@ -1,0 +1,386 @@
+//! What the paper judges and the Rust has not: the sheet (1 to 5), and a library call's tables. Field by field, with no
+//! allocation, so that it is also the Rust reader that times are taken of.
+use published::input::{Blas, Buffer, Declared, Entry, Geometry, Input, Package, Slot, Tlas};
+
+use crate::layout::{LIMITS, SIZES};
+
+#[derive(Clone, Copy, Debug, PartialEq, Eq)]
+pub struct Refused {
+    pub number: u64,
+    pub place: usize,
+}
+
+type Judged<T> = Result<T, Refused>;
+
+struct Reader<'a> {
+    bytes: &'a [u8],
+    at: usize,
+}
+
+impl Reader<'_> {
+    /// A field's bytes; 2 where it isn't whole.
+    fn field<const N: usize>(&mut self) -> Judged<[u8; N]> {
+        match self.bytes[self.at..].first_chunk() {
+            Some(&field) => {
+                self.at += N;
+                Ok(field)
+            }
+            None => Err(Refused { number: 2, place: self.at }),
+        }
+    }
+
+    fn u8(&mut self) -> Judged<u8> {
+        Ok(self.field::<1>()?[0])
+    }
+
+    fn u16(&mut self) -> Judged<u16> {
+        Ok(u16::from_le_bytes(self.field()?))
+    }
+
+    fn u32(&mut self) -> Judged<u32> {
+        Ok(u32::from_le_bytes(self.field()?))
+    }
+
+    fn u64(&mut self) -> Judged<u64> {
+        Ok(u64::from_le_bytes(self.field()?))
+    }
+
+    /// 5 at the field of `width` bytes that was just read, unless it is good.
+    fn good(&self, good: bool, width: usize) -> Judged<()> {
+        if good {
+            Ok(())
+        } else {
+            Err(Refused { number: 5, place: self.at - width })
+        }
+    }
+
+    /// A byte that is at most `most`, where it is used.
+    fn byte(&mut self, most: u8, used: bool) -> Judged<u8> {
+        let v = self.u8()?;
+        self.good(!used || v <= most, 1)?;
+        Ok(v)
+    }
+
+    /// A section's count: 4 above its limit, then 5 where what was drawn doesn't add up to it.
+    fn count(&mut self, section: usize, drawn: Option<usize>) -> Judged<usize> {
+        let n = self.u16()? as usize;
+        if n > LIMITS[section] {
+            return Err(Refused { number: 4, place: self.at - 2 });
+        }
+        self.good(drawn.is_none_or(|sum| sum == n), 2)?;
+        Ok(n)
+    }
+
+    fn buffer(&mut self) -> Judged<()> {
+        self.u64()?;
+        self.byte(3, true)?;
+        Ok(())
+    }
+
+    fn blas(&mut self) -> Judged<()> {
+        self.byte(1, true)?;
+        self.byte(7, true)?;
+        self.byte(3, true)?;
+        self.byte(1, true)?;
+        self.u64()?;
+        self.u64()?;
+        self.u64()?;
+        Ok(())
+    }
+
+    /// `blases` are the records of section 2: a box Blas leaves the vertex and index fields unused.
+    fn declared(&mut self, blases: &[u8]) -> Judged<()> {
+        let blas = self.u16()? as usize;
+        self.good(blas < blases.len() / SIZES[1], 2)?;
+        let triangles = blases[blas * SIZES[1]] == 0;
+        self.u8()?;
+        self.u32()?;
+        self.u8()?;
+        self.u16()?;
+        let alignment = self.u16()?;
+        self.good(!triangles || alignment != 0, 2)?;
+        self.byte(2, triangles)?;
+        self.byte(1, triangles)?;
+        self.u32()?;
+        Ok(())
+    }
+
+    fn tlas(&mut self) -> Judged<()> {
+        let flags = self.u8()?;
+        self.good(flags == 0 || flags == 2, 1)?;
+        self.byte(1, true)?;
+        self.u64()?;
+        self.u32()?;
+        self.u64()?;
+        Ok(())
+    }
+
+    /// Hands back how many geometries it draws.
+    fn entry(&mut self) -> Judged<usize> {
+        self.u16()?;
+        self.byte(1, true)?;
+        Ok(self.u16()?.into())
+    }
+
+    /// Without an index buffer the first index is unused, its present byte with it; likewise the transform offset.
+    fn geometry(&mut self, triangles: bool) -> Judged<()> {
+        self.u8()?;
+        self.u32()?;
+        self.u32()?;
+        self.u64()?;
+        let buffer = self.u16()?;
+        self.good(buffer != 65535, 2)?;
+        self.u8()?;
+        self.byte(2, triangles)?;
+        let index = self.u16()? != 65535;
+        self.byte(1, triangles)?;
+        self.u32()?;
+        self.byte(1, triangles && index)?;
+        self.u32()?;
+        let transform = self.u16()? != 65535;
+        self.byte(1, triangles && transform)?;
+        self.u64()?;
+        Ok(())
+    }
+
+    /// Hands back how many slots it draws.
+    fn package(&mut self) -> Judged<usize> {
+        self.u16()?;
+        Ok(self.u16()?.into())
+    }
+
+    fn slot(&mut self) -> Judged<()> {
+        self.byte(1, true)?;
+        self.u16()?;
+        self.u32()?;
+        self.u8()?;
+        for _ in 0..12 {
+            self.u32()?;
+        }
+        Ok(())
+    }
+
+    fn action(&mut self) -> Judged<()> {
+        let kind = self.u8()?;
+        self.good((1..=4).contains(&kind), 1)?;
+        self.u16()?;
+        Ok(())
+    }
+}
+
+/// An accepted sheet: the first record's place and the number of records of each section.
+#[derive(Clone, Copy, Debug)]
+pub struct Places {
+    pub version: u8,
+    pub alignment: u32,
+    pub counter: u64,
+    pub sections: [(usize, usize); 9],
+}
+
+impl Places {
+    pub fn section<'a>(&self, sheet: &'a [u8], section: usize) -> &'a [u8] {
+        let (start, count) = self.sections[section];
+        &sheet[start..start + count * SIZES[section]]
+    }
+
+    pub fn tables<'a>(&self, sheet: &'a [u8]) -> [&'a [u8]; 8] {
+        std::array::from_fn(|s| self.section(sheet, s))
+    }
+}
+
+/// An entry's kind and how many geometries it draws.
+fn entry_at(entries: &[u8], i: usize) -> (bool, usize) {
+    let e = &entries[i * 5..i * 5 + 5];
+    (e[2] == 0, u16::from_le_bytes([e[3], e[4]]).into())
+}
+
+pub fn read_sheet(bytes: &[u8]) -> Judged<Places> {
+    let r = &mut Reader { bytes, at: 0 };
+    let version = r.u8()?;
+    if version != 1 {
+        return Err(Refused { number: 1, place: 0 });
+    }
+    let alignment = r.u32()?;
+    r.good(alignment != 0, 4)?;
+    let counter = r.u64()?;
+    let mut p = Places { version, alignment, counter, sections: [(0, 0); 9] };
+    let mut drawn = None;
+    for s in 0..9 {
+        let n = r.count(s, drawn.take())?;
+        p.sections[s] = (r.at, n);
+        let mut sum = 0;
+        match s {
+            0 => (0..n).try_for_each(|_| r.buffer())?,
+            1 => (0..n).try_for_each(|_| r.blas())?,
+            2 => (0..n).try_for_each(|_| r.declared(p.section(bytes, 1)))?,
+            3 => (0..n).try_for_each(|_| r.tlas())?,
+            4 => (0..n).try_for_each(|_| r.entry().map(|k| sum += k))?,
+            5 => {
+                for i in 0..p.sections[4].1 {
+                    let (triangles, k) = entry_at(p.section(bytes, 4), i);
+                    (0..k).try_for_each(|_| r.geometry(triangles))?;
+                }
+            }
+            6 => (0..n).try_for_each(|_| r.package().map(|k| sum += k))?,
+            7 => (0..n).try_for_each(|_| r.slot())?,
+            _ => (0..n).try_for_each(|_| r.action())?,
+        }
+        if s == 4 || s == 6 {
+            drawn = Some(sum);
+        }
+    }
+    if r.at < bytes.len() {
+        return Err(Refused { number: 3, place: r.at });
+    }
+    Ok(p)
+}
+
+/// How many records the section before draws from this one, all told.
+fn drawn_by(section: usize, before: &[u8]) -> usize {
+    let size = SIZES[section - 1];
+    before.chunks_exact(size).map(|r| usize::from(u16::from_le_bytes([r[size - 2], r[size - 1]]))).sum()
+}
+
+/// A lent table, after the table of the section before: number and record of its first refusal.
+pub fn judge_table(section: usize, before: &[u8], table: &[u8]) -> Result<(), (u64, u64)> {
+    let n = table.len() / SIZES[section];
+    if n > LIMITS[section] {
+        return Err((4, 0));
+    }
+    if (section == 5 || section == 7) && drawn_by(section, before) != n {
+        return Err((5, 0));
+    }
+    let mut kinds = (0..before.len() / 5).flat_map(|i| {
+        let (triangles, k) = if section == 5 { entry_at(before, i) } else { (true, 0) };
+        std::iter::repeat_n(triangles, k)
+    });
+    for (i, bytes) in table.chunks_exact(SIZES[section]).enumerate() {
+        let r = &mut Reader { bytes, at: 0 };
+        let judged = match section {
+            0 => r.buffer(),
+            1 => r.blas(),
+            2 => r.declared(before),
+            3 => r.tlas(),
+            4 => r.entry().map(|_| ()),
+            5 => r.geometry(kinds.next().unwrap()),
+            6 => r.package().map(|_| ()),
+            _ => r.slot(),
+        };
+        if judged.is_err() {
+            return Err((5, i as u64));
+        }
+    }
+    // bytes of a part record are a value of no field
+    if table.len() % SIZES[section] != 0 {
+        return Err((5, n as u64));
+    }
+    Ok(())
+}
+
+/// A library build's tables: number, section and record of the first refusal.
+pub fn judge_tables(alignment: u32, tables: [&[u8]; 8]) -> Result<(), (u64, (u64, u64))> {
+    if alignment == 0 {
+        return Err((5, (0, 0)));
+    }
+    for s in 0..8 {
+        let before = if s == 0 { &[][..] } else { tables[s - 1] };
+        judge_table(s, before, tables[s]).map_err(|(number, record)| (number, (s as u64 + 1, record)))?;
+    }
+    Ok(())
+}
+
+// ---- the records of judged tables --------------------------------------------------------------------------------------
+
+fn u16_at(r: &[u8], at: usize) -> u16 {
+    u16::from_le_bytes([r[at], r[at + 1]])
+}
+
+fn u32_at(r: &[u8], at: usize) -> u32 {
+    u32::from_le_bytes(r[at..at + 4].try_into().unwrap())
+}
+
+fn u64_at(r: &[u8], at: usize) -> u64 {
+    u64::from_le_bytes(r[at..at + 8].try_into().unwrap())
+}
+
+fn id_or_none(n: u16) -> Option<u16> {
+    (n != 65535).then_some(n)
+}
+
+pub fn blas_of(r: &[u8]) -> Blas {
+    Blas {
+        kind: r[0],
+        flags: r[1],
+        state: r[2],
+        destroyed: r[3],
+        scratch: u64_at(r, 4),
+        address: u64_at(r, 12),
+        number: u64_at(r, 20),
+    }
+}
+
+pub fn tlas_of(r: &[u8]) -> Tlas {
+    Tlas { flags: r[0], destroyed: r[1], scratch: u64_at(r, 2), most: u32_at(r, 10), number: u64_at(r, 14) }
+}
+
+fn declared_of(r: &[u8]) -> Declared {
+    Declared {
+        blas: u16_at(r, 0),
+        flags: r[2],
+        count: u32_at(r, 3),
+        vertex_format: r[7],
+        least_stride: u16_at(r, 8),
+        stride_alignment: u16_at(r, 10),
+        index_format: r[12],
+        index_count: (r[13] == 1).then_some(u32_at(r, 14)),
+    }
+}
+
+fn geometry_of(r: &[u8]) -> Geometry {
+    Geometry {
+        flags: r[0],
+        count: u32_at(r, 1),
+        first: u32_at(r, 5),
+        stride: u64_at(r, 9),
+        buffer: u16_at(r, 17),
+        vertex_format: r[19],
+        index_format: r[20],
+        index_buffer: id_or_none(u16_at(r, 21)),
+        index_count: (r[23] == 1).then_some(u32_at(r, 24)),
+        first_index: (r[28] == 1).then_some(u32_at(r, 29)),
+        transform_buffer: id_or_none(u16_at(r, 33)),
+        transform_offset: (r[35] == 1).then_some(u64_at(r, 36)),
+    }
+}
+
+/// A slot's fields after its present byte.
+pub fn slot_of(r: &[u8]) -> Slot {
+    Slot {
+        blas: u16_at(r, 0),
+        custom_data: u32_at(r, 2),
+        mask: r[6],
+        transform: std::array::from_fn(|k| f32::from_bits(u32_at(r, 7 + 4 * k))),
+    }
+}
+
+pub fn input(alignment: u32, counter: u64, tables: [&[u8]; 8]) -> Input {
+    let [buffers, blases, declared, tlases, entries, geometries, packages, slots] = tables;
+    let mut given = geometries.chunks_exact(SIZES[5]).map(geometry_of);
+    let mut placed = slots.chunks_exact(SIZES[7]).map(|r| (r[0] == 1).then(|| slot_of(&r[1..])));
+    Input {
+        alignment,
+        counter,
+        buffers: buffers.chunks_exact(SIZES[0]).map(|r| Buffer { size: u64_at(r, 0), marks: r[8] }).collect(),
+        blases: blases.chunks_exact(SIZES[1]).map(blas_of).collect(),
+        declared: declared.chunks_exact(SIZES[2]).map(declared_of).collect(),
+        tlases: tlases.chunks_exact(SIZES[3]).map(tlas_of).collect(),
+        entries: entries
+            .chunks_exact(SIZES[4])
+            .map(|r| Entry { blas: u16_at(r, 0), kind: r[2], geometries: given.by_ref().take(u16_at(r, 3).into()).collect() })
+            .collect(),
+        packages: packages
+            .chunks_exact(SIZES[6])
+            .map(|r| Package { tlas: u16_at(r, 0), slots: placed.by_ref().take(u16_at(r, 2).into()).collect() })
+            .collect(),
+    }
+}
