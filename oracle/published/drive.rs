@@ -556,6 +556,22 @@ impl Buffered {
     }
 }
 
+/// What the stand-in that makes instance bytes takes of n instances: how many bytes they are.
+pub fn stand_in_instances(n: u32) -> usize {
+    let device: &dyn hal::DynDevice = &crate::stand_ins::RawDevice;
+    let mut staging = Vec::new();
+    for custom_data in 0..n {
+        staging.extend(device.tlas_instance_to_bytes(hal::TlasInstance {
+            transform: [1.0; 12],
+            custom_data,
+            mask: 255,
+            blas_address: u64::from(custom_data),
+            pipeline_intersection_data_offset: 0,
+        }));
+    }
+    staging.len()
+}
+
 // ---- submission -------------------------------------------------------------------------------------------------------
 
 /// An action whose ids are in their tables, those of marks excepted: these the Rust looks up itself.
@@ -585,23 +601,48 @@ fn mark(w: &World, blases: &[u32], tlases: &[u32]) -> Option<Action> {
     }
 }
 
+/// A Build of ids that are in their tables.
+fn build_of<'a>(w: &World, blases: &[u16], tlases: impl Iterator<Item = (u16, &'a [u16])>) -> Action {
+    let get = |&b: &u16| w.blases()[b as usize].clone();
+    let tlas_build =
+        |(t, list): (u16, &[u16])| TlasBuild { tlas: w.tlases()[t as usize].clone(), dependencies: list.iter().map(get).collect() };
+    Action(AsAction::Build(AsBuild {
+        blas_s_built: blases.iter().map(get).collect(),
+        tlas_s_built: tlases.map(tlas_build).collect(),
+    }))
+}
+
+fn use_of(w: &World, tlas: u16) -> Action {
+    Action(AsAction::UseTlas(w.tlases()[tlas as usize].clone()))
+}
+
 pub fn action(w: &World, a: &Act) -> Option<Action> {
     match a {
-        Act::Use(t) => Some(Action(AsAction::UseTlas(w.tlases()[*t as usize].clone()))),
+        Act::Use(t) => Some(use_of(w, *t)),
         Act::MarkBlas(b) => mark(w, &[*b], &[]),
         Act::MarkTlas(t) => mark(w, &[], &[*t]),
-        Act::Build { blases, tlases } => {
-            let get = |&b: &u16| w.blases()[b as usize].clone();
-            let tlas_build = |(t, list): &(u16, Vec<u16>)| TlasBuild {
-                tlas: w.tlases()[*t as usize].clone(),
-                dependencies: list.iter().map(get).collect(),
-            };
-            Some(Action(AsAction::Build(AsBuild {
-                blas_s_built: blases.iter().map(get).collect(),
-                tlas_s_built: tlases.iter().map(tlas_build).collect(),
-            })))
-        }
+        Act::Build { blases, tlases } => Some(build_of(w, blases, tlases.iter().map(|(t, list)| (*t, &list[..])))),
     }
+}
+
+/// Actions that are known to be good, from their cells.
+pub fn actions_of(w: &World, actions: &[u32], lists: &[u16]) -> Vec<Action> {
+    let of = |c: &[u32]| match c[0] {
+        1 => {
+            let (blases, mut rest) = lists[c[1] as usize..].split_at(c[2] as usize);
+            let packages = (0..c[3]).map(|_| {
+                let (list, after) = rest[2..].split_at(rest[1] as usize);
+                let package = (rest[0], list);
+                rest = after;
+                package
+            });
+            build_of(w, blases, packages)
+        }
+        2 => use_of(w, c[1] as u16),
+        3 => mark(w, &[c[1]], &[]).expect("inside"),
+        _ => mark(w, &[], &[c[1]]).expect("inside"),
+    };
+    actions.chunks_exact(4).map(of).collect()
 }
 
 /// Actions ready to be submitted.

@@ -363,10 +363,18 @@ pub fn slot_of(r: &[u8]) -> Slot {
     }
 }
 
-pub fn input(alignment: u32, counter: u64, tables: [&[u8]; 8]) -> Input {
-    let [buffers, blases, declared, tlases, entries, geometries, packages, slots] = tables;
+/// The entries with their geometries, and the packages with their slots.
+pub fn drawn(entries: &[u8], geometries: &[u8], packages: &[u8], slots: &[u8]) -> (Vec<Entry>, Vec<Package>) {
     let mut given = geometries.chunks_exact(SIZES[5]).map(geometry_of);
     let mut placed = slots.chunks_exact(SIZES[7]).map(|r| (r[0] == 1).then(|| slot_of(&r[1..])));
+    let entry = |r: &[u8]| Entry { blas: u16_at(r, 0), kind: r[2], geometries: given.by_ref().take(u16_at(r, 3).into()).collect() };
+    let package = |r: &[u8]| Package { tlas: u16_at(r, 0), slots: placed.by_ref().take(u16_at(r, 2).into()).collect() };
+    (entries.chunks_exact(SIZES[4]).map(entry).collect(), packages.chunks_exact(SIZES[6]).map(package).collect())
+}
+
+pub fn input(alignment: u32, counter: u64, tables: [&[u8]; 8]) -> Input {
+    let [buffers, blases, declared, tlases, entries, geometries, packages, slots] = tables;
+    let (entries, packages) = drawn(entries, geometries, packages, slots);
     Input {
         alignment,
         counter,
@@ -374,13 +382,7 @@ pub fn input(alignment: u32, counter: u64, tables: [&[u8]; 8]) -> Input {
         blases: blases.chunks_exact(SIZES[1]).map(blas_of).collect(),
         declared: declared.chunks_exact(SIZES[2]).map(declared_of).collect(),
         tlases: tlases.chunks_exact(SIZES[3]).map(tlas_of).collect(),
-        entries: entries
-            .chunks_exact(SIZES[4])
-            .map(|r| Entry { blas: u16_at(r, 0), kind: r[2], geometries: given.by_ref().take(u16_at(r, 3).into()).collect() })
-            .collect(),
-        packages: packages
-            .chunks_exact(SIZES[6])
-            .map(|r| Package { tlas: u16_at(r, 0), slots: placed.by_ref().take(u16_at(r, 2).into()).collect() })
-            .collect(),
+        entries,
+        packages,
     }
 }

@@ -1,0 +1,505 @@
+//! Takes times of the published Rust and of the static library, same driver, same inputs, both built for release, and writes
+//! them to standard output and as docs/SPEED.md. See `bench/run`.
+#![allow(dead_code)]
+
+#[path = "../oracle/src/layout.rs"]
+mod layout;
+#[path = "../oracle/src/paper.rs"]
+mod paper;
+
+use std::fmt::Write as _;
+use std::hint::black_box;
+use std::time::Instant;
+
+use layout::*;
+use published::drive::{self, Act, Buffered, Sizes, Submission, World};
+use published::input::Input;
+
+// ---- inputs -----------------------------------------------------------------------------------------------------------
+
+/// Tables with this many records, all accepted. A geometry has an index buffer and a transform where `rich`.
+struct Shape {
+    buffers: usize,
+    blases: usize,
+    declared: usize,
+    tlases: usize,
+    entries: usize,
+    geometries: usize,
+    packages: usize,
+    slots: usize,
+    actions: usize,
+    rich: bool,
+}
+
+/// n spread over `over`, the i-th part.
+fn part(n: usize, over: usize, i: usize) -> usize {
+    n * (i + 1) / over - n * i / over
+}
+
+fn tables(s: &Shape) -> Raw {
+    let mut raw = Raw { version: 1, alignment: 256, counter: 1, ..Raw::default() };
+    for _ in 0..s.buffers {
+        raw.push(BUFFERS, &[1 << 20, 1]);
+    }
+    for i in 0..s.blases {
+        raw.push(BLASES, &[0, if s.rich { 5 } else { 0 }, 0, 0, 300 + i as u64, 0x1000 * i as u64, 1]);
+    }
+    for i in 0..s.declared {
+        let (format, present, count) = if s.rich { (1, 1, 36) } else { (0, 0, 0) };
+        raw.push(DECLARED, &[(i % s.blases) as u64, 1, 24, 1, 12, 4, format, present, count]);
+    }
+    for i in 0..s.tlases {
+        raw.push(TLASES, &[0, 0, 1000 + i as u64, 512, 1]);
+    }
+    for i in 0..s.entries {
+        let n = part(s.geometries, s.entries, i);
+        raw.push(ENTRIES, &[(i % s.blases) as u64, 0, n as u64]);
+        for j in 0..n {
+            let b = ((i + j) % s.buffers) as u64;
+            let mut g = [1, 24, 0, 12, b, 1, 0, NONE, 0, 0, 0, 0, NONE, 0, 0];
+            if s.rich {
+                g = [1, 24, 2, 12, b, 1, 1, b, 1, 36, 1, 3, b, 1, 48];
+            }
+            raw.push(GEOMETRIES, &g);
+        }
+    }
+    for i in 0..s.packages {
+        let n = part(s.slots, s.packages, i);
+        raw.push(PACKAGES, &[(i % s.tlases) as u64, n as u64]);
+        for j in 0..n {
+            let mut slot = [0x3f80_0000; 16];
+            slot[slot::PRESENT] = 1;
+            slot[slot::BLAS] = ((i + j) % s.blases) as u64;
+            slot[slot::CUSTOM_DATA] = j as u64;
+            slot[slot::MASK] = 255;
+            raw.push(SLOTS, &slot);
+        }
+    }
+    for i in 0..s.actions {
+        raw.push(ACTIONS, &[[1, 2][i % 2], 0]);
+    }
+    raw
+}
+
+const SMALL: Shape = Shape {
+    buffers: 1,
+    blases: 1,
+    declared: 1,
+    tlases: 1,
+    entries: 1,
+    geometries: 1,
+    packages: 1,
+    slots: 1,
+    actions: 2,
+    rich: false,
+};
+const TYPICAL: Shape = Shape {
+    buffers: 8,
+    blases: 16,
+    declared: 16,
+    tlases: 2,
+    entries: 8,
+    geometries: 8,
+    packages: 2,
+    slots: 80,
+    actions: 4,
+    rich: true,
+};
+const FULL: Shape = Shape {
+    buffers: 256,
+    blases: 128,
+    declared: 512,
+    tlases: 32,
+    entries: 64,
+    geometries: 256,
+    packages: 32,
+    slots: 512,
+    actions: 64,
+    rich: true,
+};
+
+fn only_slots(n: usize) -> Shape {
+    Shape {
+        buffers: 1,
+        blases: 16,
+        declared: 16,
+        tlases: 1,
+        entries: 0,
+        geometries: 0,
+        packages: 1,
+        slots: n,
+        actions: 0,
+        rich: false,
+    }
+}
+
+fn only_entries(n: usize) -> Shape {
+    Shape {
+        buffers: 8,
+        blases: 64,
+        declared: 256,
+        tlases: 1,
+        entries: n,
+        geometries: 4 * n,
+        packages: 0,
+        slots: 0,
+        actions: 0,
+        rich: true,
+    }
+}
+
+/// Ten actions that pass on what they left, again and again: two Builds of two Blases with a Tlas over four, two marks, six
+/// uses.
+fn ten(k: usize) -> Act {
+    match k % 10 {
+        0 => Act::Build { blases: vec![0, 1], tlases: vec![(0, vec![0, 1, 6, 7])] },
+        4 => Act::Build { blases: vec![2, 3], tlases: vec![(1, vec![2, 3, 4, 5])] },
+        3 => Act::MarkBlas(8),
+        7 => Act::MarkTlas(2),
+        8 => Act::Use(2),
+        1 | 2 | 6 => Act::Use(0),
+        _ => Act::Use(1),
+    }
+}
+
+fn cells(acts: &[Act]) -> (Vec<u32>, Vec<u16>) {
+    let (mut actions, mut lists) = (Vec::new(), Vec::new());
+    for a in acts {
+        match a {
+            Act::Build { blases, tlases } => {
+                actions.extend([1, lists.len() as u32, blases.len() as u32, tlases.len() as u32]);
+                lists.extend_from_slice(blases);
+                for (t, list) in tlases {
+                    lists.extend([*t, list.len() as u16]);
+                    lists.extend_from_slice(list);
+                }
+            }
+            Act::Use(t) => actions.extend([2, (*t).into(), 0, 0]),
+            Act::MarkBlas(b) => actions.extend([3, *b, 0, 0]),
+            Act::MarkTlas(t) => actions.extend([4, *t, 0, 0]),
+        }
+    }
+    (actions, lists)
+}
+
+// ---- times ------------------------------------------------------------------------------------------------------------
+
+/// Samples for each side, in turn; the least counts.
+const SAMPLES: usize = 40;
+
+/// How often it is done in one sample, so that a sample takes some 200 us.
+fn often(once: &mut dyn FnMut()) -> usize {
+    once();
+    let start = Instant::now();
+    once();
+    let ns = start.elapsed().as_nanos().max(20) as usize;
+    (200_000 / ns).clamp(1, 4000)
+}
+
+fn sample(n: usize, once: &mut dyn FnMut()) -> f64 {
+    let start = Instant::now();
+    for _ in 0..n {
+        once();
+    }
+    start.elapsed().as_nanos() as f64 / n as f64
+}
+
+/// The least nanoseconds of each, taken in turn; `after` runs after each sample, untimed.
+fn times<const N: usize>(mut of: [&mut dyn FnMut(); N], after: &mut dyn FnMut()) -> [f64; N] {
+    let n = of.each_mut().map(|once| often(*once));
+    after();
+    let mut least = [f64::MAX; N];
+    for _ in 0..SAMPLES {
+        for k in 0..N {
+            least[k] = least[k].min(sample(n[k], of[k]));
+            after();
+        }
+    }
+    least
+}
+
+/// Nanoseconds: of the Rust from the same bytes and cells; of the Rust on its own types, made beforehand; ours.
+struct Row {
+    name: String,
+    what: String,
+    rust: f64,
+    made: f64,
+    ours: f64,
+}
+
+/// What the library writes a build into: room for all, filled once and never cleared.
+struct Out {
+    blas_offsets: Vec<u64>,
+    tlas_offsets: Vec<u64>,
+    staging_ranges: Vec<u64>,
+    instances: Vec<u8>,
+    init_ranges: Vec<u64>,
+    compactable: Vec<u16>,
+    lists: Vec<u16>,
+}
+
+impl Out {
+    fn new() -> Out {
+        Out {
+            blas_offsets: vec![1; 64],
+            tlas_offsets: vec![1; 32],
+            staging_ranges: vec![1; 64],
+            instances: vec![1; 64 * 512],
+            init_ranges: vec![1; 9 * 256],
+            compactable: vec![1; 64],
+            lists: vec![1; 64 + 2 * 32 + 512],
+        }
+    }
+
+    fn lend(&mut self) -> zakvind::Outputs<'_> {
+        zakvind::Outputs {
+            blas_offsets: &mut self.blas_offsets,
+            tlas_offsets: &mut self.tlas_offsets,
+            staging_ranges: &mut self.staging_ranges,
+            instances: &mut self.instances,
+            init_ranges: &mut self.init_ranges,
+            compactable: &mut self.compactable,
+            lists: &mut self.lists,
+        }
+    }
+}
+
+fn read_row() -> Row {
+    let sheet = tables(&FULL).sheet();
+    assert_eq!(sheet.len(), 56_415);
+    let ours = zakvind::raw::read_sheet(&sheet);
+    let theirs = paper::read_sheet(&sheet).unwrap();
+    assert_eq!((ours.number, ours.sections[8].start as usize), (0, theirs.sections[8].0));
+    let [rust, ours] = times(
+        [
+            &mut || {
+                let _ = black_box(paper::read_sheet(black_box(&sheet)));
+            },
+            &mut || {
+                black_box(zakvind::raw::read_sheet(black_box(&sheet)));
+            },
+        ],
+        &mut || {},
+    );
+    Row { name: "read-full".into(), what: "reading a full sheet, 56,415 bytes".into(), rust, made: rust, ours }
+}
+
+fn build_row(name: &str, what: &str, shape: &Shape) -> Row {
+    let raw = tables(shape);
+    let t = raw.tables();
+    let lent: [&[u8]; 8] = std::array::from_fn(|s| &t[s][..]);
+    paper::judge_tables(256, lent).unwrap();
+    let input = paper::input(256, 1, lent);
+    let (world, sizes) = (World::new(&input), Sizes::new(&input));
+    let buffered = std::cell::RefCell::new(Buffered::new());
+    let mut out = Out::new();
+    // both accept it and record the same
+    assert!(buffered.borrow_mut().build(&world, &input, &sizes), "{name}");
+    let a = zakvind::raw::build(256, lent, out.lend());
+    assert_eq!((a.number, a.recorded), (0, 1), "{name}");
+    assert_eq!(out.lists[..a.written[6] as usize], buffered.borrow().last_lists()[..], "{name}");
+    let [rust, made, ours] = times(
+        [
+            &mut || {
+                let (entries, packages) = paper::drawn(black_box(lent[4]), lent[5], lent[6], lent[7]);
+                let drawn = Input { entries, packages, ..Input::default() };
+                black_box(buffered.borrow_mut().build(black_box(&world), &drawn, &Sizes::new(&drawn)));
+            },
+            &mut || {
+                black_box(buffered.borrow_mut().build(black_box(&world), black_box(&input), black_box(&sizes)));
+            },
+            &mut || {
+                black_box(zakvind::raw::build(256, black_box(lent), out.lend()));
+            },
+        ],
+        &mut || buffered.borrow_mut().clear(),
+    );
+    Row { name: name.into(), what: what.into(), rust, made, ours }
+}
+
+/// The same slots appended one by one, and as plain memory copies of 64 bytes each.
+fn append_rows() -> (Row, f64) {
+    let t = tables(&only_slots(512)).tables();
+    let instances: Vec<[u8; 55]> = t[SLOTS].chunks_exact(56).map(|r| r[1..].try_into().unwrap()).collect();
+    let mut out = vec![1u8; 64 * 512];
+    let append = |out: &mut [u8]| {
+        let mut used = 0;
+        for i in &instances {
+            used = zakvind::raw::append_instance(&t[TLASES], &t[BLASES], 0, i, out, used).used;
+        }
+        used
+    };
+    assert_eq!(append(&mut out), 64 * 512);
+    let source = out.clone();
+    let mut target = vec![1u8; 64 * 512];
+    let [rust, ours, copy] = times(
+        [
+            &mut || {
+                black_box(drive::stand_in_instances(black_box(512)));
+            },
+            &mut || {
+                black_box(append(black_box(&mut out)));
+            },
+            &mut || black_box(&mut target).copy_from_slice(black_box(&source)),
+        ],
+        &mut || {},
+    );
+    (Row { name: "append-512".into(), what: "512 instances appended one by one".into(), rust, made: rust, ours }, copy)
+}
+
+fn submit_row(n: usize) -> Row {
+    let acts: Vec<Act> = (0..n).map(ten).collect();
+    let mut raw = Raw { alignment: 1, ..Raw::default() };
+    for i in 0..16 {
+        raw.push(BLASES, &[0, 0, 0, 0, 0, i, 1]);
+    }
+    for _ in 0..4 {
+        raw.push(TLASES, &[0, 0, 0, 512, 1]);
+    }
+    let (mut blases, mut tlases) = (raw.table(BLASES), raw.table(TLASES));
+    let input = paper::input(1, 5, [&[], &blases, &[], &tlases, &[], &[], &[], &[]]);
+    let world = World::new(&input);
+    let submission = Submission::new(acts.iter().map(|a| drive::action(&world, a).unwrap()).collect());
+    let (mut counts, mut dependencies) = ([0u16; 4], vec![0u16; 512 * 4]);
+    let (actions, lists) = cells(&acts);
+    let mut indices = zakvind::CommandIndices { active_submission_index: 0, next_acceleration_structure_build_command_index: 5 };
+    let mut ours = || {
+        let lent = zakvind::Lent {
+            blases: &mut blases,
+            tlases: &mut tlases,
+            dependency_counts: &mut counts,
+            dependencies: &mut dependencies,
+        };
+        zakvind::raw::submit(&mut indices, lent, black_box(&actions), black_box(&lists)).number
+    };
+    assert!(submission.accepted(&world));
+    assert_eq!(ours(), 0);
+    let [rust, made, ours] = times(
+        [
+            &mut || {
+                let sent = Submission::new(drive::actions_of(black_box(&world), black_box(&actions), black_box(&lists)));
+                black_box(sent.accepted(&world));
+            },
+            &mut || {
+                black_box(black_box(&submission).accepted(black_box(&world)));
+            },
+            &mut || {
+                black_box(ours());
+            },
+        ],
+        &mut || {},
+    );
+    Row { name: format!("submit-{n}"), what: format!("submission of {n} actions"), rust, made, ours }
+}
+
+// ---- the paper --------------------------------------------------------------------------------------------------------
+
+fn micro(ns: f64) -> String {
+    format!("{:.2} us", ns / 1000.0)
+}
+
+fn line_of(file: &str, word: &str) -> String {
+    let text = std::fs::read_to_string(file).unwrap_or_default();
+    text.lines().find(|l| l.starts_with(word)).and_then(|l| l.split(':').nth(1)).unwrap_or("not known").trim().to_string()
+}
+
+fn main() {
+    let rustc = std::env::var("RUSTC_VERSION").unwrap_or_default();
+    let rows = vec![
+        read_row(),
+        build_row("build-small", "build of small tables: 1 entry, 1 geometry, 1 slot", &SMALL),
+        build_row(
+            "build-typical",
+            "build of typical tables: 8 entries with indices and transforms, 2 packages, 80 slots",
+            &TYPICAL,
+        ),
+        build_row("build-full", "build of full tables: 64 entries, 256 geometries, 32 packages, 512 slots", &FULL),
+        build_row("instances-512", "build of one package of 512 slots: instance bytes", &only_slots(512)),
+        submit_row(10),
+        submit_row(1000),
+        submit_row(100_000),
+    ];
+    let (append, copy) = append_rows();
+    let growth: Vec<Row> = [1, 4, 16, 64]
+        .map(|n| build_row(&format!("entries-{n}"), &format!("{n} entries, {} geometries", 4 * n), &only_entries(n)))
+        .into_iter()
+        .chain([1, 8, 64, 512].map(|n| build_row(&format!("slots-{n}"), &format!("{n} slots"), &only_slots(n))))
+        .chain([10, 100, 1000, 10_000, 100_000].map(|n| {
+            let r = submit_row(n);
+            Row { what: format!("{n} actions"), ..r }
+        }))
+        .collect();
+
+    let instances = rows.iter().find(|r| r.name == "instances-512").unwrap();
+    let table = |rows: &[Row]| {
+        let mut text = String::new();
+        for r in rows {
+            let (rust, made) = (r.rust / r.ours, r.made / r.ours);
+            let times = [r.rust, r.made, r.ours].map(micro).join(" | ");
+            let _ = writeln!(text, "| {} | {times} | {rust:.2} | {made:.2} |", r.what);
+        }
+        text
+    };
+    let paper = format!(
+        "# Speed\n\n\
+         Written by `bench/run`: one run, {cpu}, {rustc}. The same driver calls both sides with the same inputs, both built for \
+         release (the Rust with opt-level 3; the library as `rt staticlib` makes it, SSE2 only, no inlining into the caller). The \
+         least of {SAMPLES} samples of some 200 us each counts, the sides in turn.\n\n\
+         Rust: from the same bytes and cells. Rust, made: on the Rust's own types, all made beforehand. A ratio is the Rust's time / \
+         Zakvind's.\n\n\
+         | What | Rust | Rust, made | Zakvind | ratio | made |\n|---|---|---|---|---|---|\n{rows}\n\
+         Instance bytes against a plain memory copy of the same 32,768 bytes ({copied}): the build of one package of 512 slots, all \
+         its judging included, takes {a:.2} times as long; 512 instances appended by one call each {b:.2} times ({appended}).\n\n\
+         ## How it grows\n\n\
+         | Work | Rust | Rust, made | Zakvind | ratio | made |\n|---|---|---|---|---|---|\n{growth}\n\
+         ## What is timed\n\n\
+         - Reading: the Rust has no sheet. Beside ours stands a reader written for the oracle in plain Rust (`oracle/src/paper.rs`), which \
+         judges the same and allocates nothing.\n\
+         - Building: of the Rust `command_encoder_build_acceleration_structures` (ids) and `build_acceleration_structures`, on buffers, Blases \
+         and Tlases made beforehand. Entries, geometries, packages and slots are taken from the bytes within the time, or made beforehand; \
+         what it records is dropped outside the time. Ours judges every field of all eight tables first, which the Rust's types spare \
+         it, and writes into buffers that were filled once and are not cleared in between.\n\
+         - Submission: of the Rust `validate_acceleration_structure_actions`, on actions that are made of the cells within the time (marks by \
+         the Rust's own function) and dropped in it, or made beforehand. Ours judges the start and decodes the cells. In ten actions there \
+         are two Builds, two marks and six uses; 16 Blases, 4 Tlases.\n\
+         - The stand-ins record nothing here. Locks are `RefCell`s, trackers and the encoder do nothing, the registry is a vector: cheaper \
+         than what they stand for, so the Rust is faster here than where it is used. What they cost and the Rust can't do without: making \
+         the 64 bytes of an instance, in a vector of its own as its signature has it ({stand_in} for 512), and one copy into the staging \
+         buffer.\n",
+        cpu = line_of("/proc/cpuinfo", "model name"),
+        rows = table(&rows),
+        growth = table(&growth),
+        copied = micro(copy),
+        a = instances.ours / copy,
+        b = append.ours / copy,
+        appended = micro(append.ours),
+        stand_in = micro(append.rust),
+    );
+    for r in rows.iter().chain(&growth) {
+        println!(
+            "{:<16} Rust {:>12}   made beforehand {:>12}   Zakvind {:>12}",
+            r.name,
+            micro(r.rust),
+            micro(r.made),
+            micro(r.ours)
+        );
+    }
+    println!(
+        "{:<16} stand-in {:>8}   Zakvind {:>12}   memory copy {}",
+        append.name,
+        micro(append.rust),
+        micro(append.ours),
+        micro(copy)
+    );
+    for r in &rows {
+        println!("ratio {} {:.2}", r.name, r.rust / r.ours);
+    }
+    for r in &rows {
+        println!("beforehand {} {:.2}", r.name, r.made / r.ours);
+    }
+    println!("copy instances-512 {:.2}", instances.ours / copy);
+    println!("copy append-512 {:.2}", append.ours / copy);
+    if let Some(file) = std::env::args().nth(1) {
+        std::fs::write(&file, paper).unwrap_or_else(|e| panic!("{file}: {e}"));
+    }
+}
