@@ -75,7 +75,7 @@ fn totals(packages: bool) -> Vec<u8> {
     })
 }
 
-fn sheets() -> Vec<(&'static str, Vec<u8>, &'static str)> {
+pub fn sheets() -> Vec<(&'static str, Vec<u8>, &'static str)> {
     let passes = "build 0 0 0 0 0 0\n";
     let set = |section, field, value| with(|r| r.set(section, 0, field, value));
     vec![

@@ -9,6 +9,7 @@ mod library;
 mod mutants;
 mod paper;
 mod reading;
+mod record;
 mod rng;
 mod rust_side;
 mod shrink;
@@ -22,7 +23,7 @@ use side::Side;
 
 fn usage() -> ! {
     eprintln!("usage: oracle sheet < SHEET | batch FILE | compare N [SEED] [reading [FAULT]] | case FILE [reading]");
-    eprintln!("       oracle examples [reading] | faults N | mutant K SRC DST");
+    eprintln!("       oracle examples [reading] | faults N | mutant K SRC DST | record sheets|submissions FOLDER");
     exit(2)
 }
 
@@ -118,6 +119,18 @@ fn run() {
             if !missed.is_empty() {
                 exit(1);
             }
+        }
+        Some("record") => {
+            let (Some(kind), Some(folder)) = (word(1), word(2)) else { usage() };
+            let Some((bytes, text, numbers)) = record::record(kind) else { usage() };
+            for (file, content) in [("stdin", &bytes[..]), ("stdout", text.as_bytes())] {
+                if let Err(e) = std::fs::write(format!("{folder}/{file}"), content) {
+                    eprintln!("{folder}/{file}: {e}");
+                    exit(2);
+                }
+            }
+            let counts: Vec<String> = numbers.iter().map(|(n, k)| format!("{n}: {k}")).collect();
+            println!("{folder}: {} bytes, {} bytes of answers; {}", bytes.len(), text.len(), counts.join(", "));
         }
         Some("examples") => {
             let (mut other, name) = other_side(&args[1..]);
