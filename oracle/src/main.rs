@@ -1,6 +1,7 @@
 //! Compares Zakvind with the published Rust. See README.md.
 mod case_file;
 mod compare;
+mod corpus;
 mod examples;
 mod generate;
 mod layout;
@@ -23,7 +24,9 @@ use side::Side;
 
 fn usage() -> ! {
     eprintln!("usage: oracle sheet < SHEET | batch FILE | compare N [SEED] [reading [FAULT]] | case FILE [reading]");
-    eprintln!("       oracle examples [reading] | faults N | mutant K SRC DST | record sheets|submissions FOLDER");
+    eprintln!(
+        "       oracle examples [reading] | faults N | mutant K SRC DST | record sheets|submissions FOLDER | corpus N FOLDER"
+    );
     exit(2)
 }
 
@@ -102,7 +105,9 @@ fn run() {
             let (mut other, name) = other_side(&args[if seed.is_some() { 3 } else { 2 }.min(args.len())..]);
             // with ORACLE_QUIET it ends at the first difference and shows nothing of it
             let quiet = std::env::var_os("ORACLE_QUIET").is_some();
-            if !compare::run(other.as_mut(), &name, count, seed.unwrap_or(1), if quiet { 1 } else { 3 }, quiet, &out) {
+            let fine = quiet || examples::run(Some((other.as_mut(), &name)));
+            let most = if quiet { 1 } else { 3 };
+            if !compare::run(other.as_mut(), &name, count, seed.unwrap_or(1), most, quiet, &out) || !fine {
                 exit(1);
             }
         }
@@ -118,6 +123,29 @@ fn run() {
             println!("{} of {} faults found; not found: {missed:?}", reading::FAULTS as usize - missed.len(), reading::FAULTS);
             if !missed.is_empty() {
                 exit(1);
+            }
+        }
+        // inputs of robust.c: N in one file, each after its length, and the first short ones as files
+        Some("corpus") => {
+            let (Some(count), Some(folder)) = (word(1).and_then(|w| w.parse::<u64>().ok()), word(2)) else { usage() };
+            let (mut all, mut files) = (Vec::new(), 0);
+            for index in 0..count {
+                let case = generate::case(21, index);
+                let text = match &case {
+                    side::Case::Sheet { bytes, .. } => rust.text(bytes).len(),
+                    _ => 0,
+                };
+                let Some(bytes) = corpus::bytes(&case, text) else { continue };
+                all.extend((bytes.len() as u32).to_le_bytes());
+                all.extend_from_slice(&bytes);
+                if bytes.len() < 4096 && files < 2000 {
+                    files += 1;
+                    let _ = std::fs::write(format!("{folder}/inputs/{index}"), &bytes);
+                }
+            }
+            if let Err(e) = std::fs::write(format!("{folder}/all"), all) {
+                eprintln!("{folder}/all: {e}");
+                exit(2);
             }
         }
         Some("record") => {

@@ -1,0 +1,296 @@
+/* Bytes in and out of every exported function. For libFuzzer: each lent array ends at, or begins after, a page that can't be
+ * touched, so that a read or write past it faults; what must be kept is compared after each call; answers that were not given
+ * before count as coverage, since the library's machine code has no counters of its own. With -DALONE it reads a file of inputs,
+ * each after its length as a u32, and lends heap blocks of the exact size, to be run under valgrind. */
+#define _GNU_SOURCE
+#include "zakvind.h"
+
+#include <stdio.h>
+#include <stdlib.h>
+#include <string.h>
+#include <sys/mman.h>
+
+enum { AREAS = 16, AREA = 1 << 20, PAGE = 4096 };
+
+static void must(int holds, const char *what)
+{
+    if (!holds) {
+        fprintf(stderr, "must hold: %s\n", what);
+        abort();
+    }
+}
+
+/* ---- what is lent */
+
+typedef struct {
+    uint8_t *at;
+    size_t bytes;
+    uint8_t *before; /* what it held before the call */
+} lent;
+
+static lent lents[AREAS];
+static int count;
+
+#ifdef ALONE
+static void *area(size_t bytes) { return malloc(bytes ? bytes : 1); }
+#else
+static uint8_t *areas[AREAS];
+static int from_the_front;
+
+static void *area(size_t bytes)
+{
+    if (!areas[count]) {
+        uint8_t *p = mmap(NULL, AREA + 2 * PAGE, PROT_NONE, MAP_PRIVATE | MAP_ANONYMOUS, -1, 0);
+        must(p != MAP_FAILED, "there is memory");
+        must(mprotect(p + PAGE, AREA, PROT_READ | PROT_WRITE) == 0, "pages can be guarded");
+        areas[count] = p + PAGE;
+    }
+    return from_the_front ? areas[count] : areas[count] + AREA - bytes;
+}
+#endif
+
+/* Lends `bytes` bytes, the first `given` of them from the input. An output has a pattern, or, alone, nothing yet: valgrind
+ * then tells whether something is read of it. */
+static void *lend(size_t bytes, const uint8_t *from, size_t given, int output)
+{
+    uint8_t *p = area(bytes);
+    if (output) {
+#ifndef ALONE
+        for (size_t i = 0; i < bytes; i++)
+            p[i] = (uint8_t)(i * 37 + 11);
+#endif
+    } else {
+        memcpy(p, from, given);
+        memset(p + given, 0, bytes - given);
+    }
+    lents[count] = (lent){p, bytes, NULL};
+#ifdef ALONE
+    if (!output)
+#endif
+    {
+        lents[count].before = malloc(bytes ? bytes : 1);
+        memcpy(lents[count].before, p, bytes);
+    }
+    count++;
+    return p;
+}
+
+/* From `from` bytes on it holds what it held. */
+static void kept(int k, size_t from, const char *what)
+{
+    if (lents[k].before && from < lents[k].bytes)
+        must(memcmp(lents[k].at + from, lents[k].before + from, lents[k].bytes - from) == 0, what);
+}
+
+/* Looks at every written byte, so that valgrind tells of one that was never set. */
+static void seen(int k, size_t bytes)
+{
+    unsigned sum = 0;
+    must(bytes <= lents[k].bytes, "no more is written than was lent");
+    for (size_t i = 0; i < bytes; i++)
+        sum = sum * 31 + lents[k].at[i];
+    if (sum == 0xdeadbeef)
+        puts("a rare sum");
+}
+
+static void done(void)
+{
+    for (int k = 0; k < count; k++) {
+        free(lents[k].before);
+#ifdef ALONE
+        free(lents[k].at);
+#endif
+    }
+    count = 0;
+}
+
+/* ---- answers as coverage */
+
+#ifndef ALONE
+__attribute__((section("__libfuzzer_extra_counters"))) static uint8_t counters[1 << 13];
+#else
+static uint8_t counters[1 << 13];
+#endif
+static uint64_t numbers[64];
+
+static void given(unsigned call, const uint64_t *answer, size_t fields)
+{
+    unsigned h = call;
+    for (size_t i = 0; i < fields; i++) {
+        uint64_t v = answer[i];
+        unsigned small = v < 8 ? (unsigned)v : 8u + (v > 64) + (v > 4096) + (v > 1u << 31) + (v > (uint64_t)1 << 60);
+        h = h * 31 + (i == 0 ? (unsigned)v : small);
+        if (i < 3)
+            counters[(h * 2654435761u) >> 19] = 1;
+    }
+    if (answer[0] < 64)
+        numbers[answer[0]]++;
+    must(answer[0] <= 44, "a number of the table");
+}
+
+/* ---- the input */
+
+typedef struct {
+    const uint8_t *at;
+    size_t left;
+} input;
+
+static uint64_t number(input *in, size_t width)
+{
+    uint64_t v = 0;
+    for (size_t i = 0; i < width && in->left; i++, in->left--)
+        v |= (uint64_t)*in->at++ << 8 * i;
+    return v;
+}
+
+/* Lends n elements of `size` bytes from what is left; what is missing is 0, or left away where `cut`. */
+static void *take(input *in, size_t *n, size_t size, int cut)
+{
+    size_t bytes = *n * size, there = bytes < in->left ? bytes : in->left;
+    if (cut) {
+        *n = there / size;
+        bytes = there = *n * size;
+    }
+    void *p = lend(bytes, in->at, there, 0);
+    in->at += there;
+    in->left -= there;
+    return p;
+}
+
+static void call_sheet(input *in)
+{
+    size_t room = number(in, 2), n = in->left;
+    uint8_t *sheet = take(in, &n, 1, 1), *out = lend(room, NULL, 0, 1);
+    zakvind_sheet r = zakvind_read_sheet(sheet, n), again = zakvind_read_sheet(sheet, n);
+    given(0, (const uint64_t *)&r, 23);
+    must(memcmp(&r, &again, sizeof r) == 0, "the same answer again");
+    must(r.number <= 5 && r.place <= n, "a sheet's refusal");
+    zakvind_reported t = zakvind_report(sheet, n, out, room);
+    given(1, (const uint64_t *)&t, 2);
+    must(t.number == 0 || (t.number == 39 && t.written == 0), "a report's refusal");
+    kept(0, 0, "the sheet is kept");
+    kept(1, t.written, "what is past the text is kept");
+    seen(1, t.written);
+    must(t.written == 0 || out[t.written - 1] == '\n', "a text ends with its line");
+    must(t.number == 39 || (r.number != 0) == (out[0] == 's'), "reader and report agree");
+}
+
+static void call_build(input *in)
+{
+    static const size_t width[7] = {8, 8, 8, 1, 8, 2, 2};
+    uint32_t alignment = (uint32_t)number(in, 4);
+    size_t n[8], m[7];
+    const uint8_t *t[8];
+    void *o[7];
+    for (int i = 0; i < 8; i++)
+        n[i] = number(in, 2);
+    for (int i = 0; i < 7; i++)
+        m[i] = number(in, 2);
+    for (int i = 0; i < 8; i++)
+        t[i] = take(in, &n[i], 1, 1);
+    for (int i = 0; i < 7; i++)
+        o[i] = lend(m[i] * width[i], NULL, 0, 1);
+    zakvind_built b = zakvind_build(alignment, t[0], n[0], t[1], n[1], t[2], n[2], t[3], n[3], t[4], n[4], t[5], n[5], t[6], n[6],
+                                    t[7], n[7], o[0], m[0], o[1], m[1], o[2], m[2], o[3], m[3], o[4], m[4], o[5], m[5], o[6], m[6]);
+    given(2, (const uint64_t *)&b, 15);
+    const uint64_t written[7] = {b.blas_offsets, b.tlas_offsets, b.staging_ranges, b.instances, b.init_ranges, b.compactable, b.lists};
+    for (int i = 0; i < 8; i++)
+        kept(i, 0, "the tables are kept");
+    for (int i = 0; i < 7; i++) {
+        must(written[i] <= m[i], "no more is written than was lent");
+        must(b.number == 0 || written[i] == 0, "a refusal writes nothing");
+        kept(8 + i, written[i] * width[i], "what is past the plan is kept");
+        seen(8 + i, written[i] * width[i]);
+    }
+    must(b.number == 0 || (b.recorded == 0 && b.scratch_size == 0), "a refusal records nothing");
+}
+
+static void call_submit(input *in)
+{
+    zakvind_command_indices i = {number(in, 8), number(in, 8)}, was = i;
+    size_t b = number(in, 2), t = number(in, 2), c = number(in, 2), d = number(in, 2), a = number(in, 2), l = number(in, 2);
+    uint8_t *blases = take(in, &b, 1, 1), *tlases = take(in, &t, 1, 1);
+    uint32_t *actions = take(in, &a, 4, 1);
+    uint16_t *lists = take(in, &l, 2, 1), *counts = take(in, &c, 2, 0), *dependencies = take(in, &d, 2, 0);
+    zakvind_submitted s = zakvind_submit(&i, blases, b, tlases, t, counts, c, dependencies, d, actions, a, lists, l);
+    given(3, (const uint64_t *)&s, 4);
+    kept(2, 0, "the actions are kept");
+    kept(3, 0, "the lists are kept");
+    must(i.active_submission_index == was.active_submission_index, "the submission index never moves");
+    must(s.number == 0 || s.action <= a / 4, "the refused action is one of them");
+    if (i.next_acceleration_structure_build_command_index == was.next_acceleration_structure_build_command_index) {
+        kept(0, 0, "without a Build the Blases are kept");
+        kept(1, 0, "without a Build the Tlases are kept");
+        kept(4, 0, "without a Build the counts are kept");
+        kept(5, 0, "without a Build the lists of Tlases are kept");
+    }
+}
+
+static void call_append(input *in)
+{
+    size_t t = number(in, 2), b = number(in, 2), room, n = 55;
+    uint16_t tlas = (uint16_t)number(in, 2);
+    room = number(in, 2);
+    uint64_t used = number(in, 8);
+    uint8_t *instance = take(in, &n, 1, 0), *tlases = take(in, &t, 1, 1), *blases = take(in, &b, 1, 1);
+    uint8_t *instances = lend(room, NULL, 0, 1);
+    zakvind_appended r = zakvind_append_instance(tlases, t, blases, b, tlas, instance, instances, room, used);
+    given(4, (const uint64_t *)&r, 7);
+    for (int k = 0; k < 3; k++)
+        kept(k, 0, "the tables and the instance are kept");
+    if (r.number) {
+        kept(3, 0, "a refusal writes nothing");
+        return;
+    }
+    must(r.used == used + 64 && r.used <= room, "64 bytes are appended");
+    kept(3, r.used, "what is past them is kept");
+    must(!lents[3].before || memcmp(instances, lents[3].before, used) == 0, "what was in use is kept");
+}
+
+int LLVMFuzzerTestOneInput(const uint8_t *data, size_t size)
+{
+    input in = {data, size};
+    unsigned head = (unsigned)number(&in, 1);
+    if (size < 1 || size > 1 << 17)
+        return 0;
+#ifndef ALONE
+    from_the_front = head >> 7;
+#endif
+    switch (head % 8) {
+    case 0: call_sheet(&in); break;
+    case 1: call_build(&in); break;
+    case 2: call_submit(&in); break;
+    case 3: call_append(&in); break;
+    default: break;
+    }
+    done();
+    return 0;
+}
+
+#ifdef ALONE
+int main(int argc, char **argv)
+{
+    FILE *f = argc == 2 ? fopen(argv[1], "rb") : NULL;
+    if (!f) {
+        fprintf(stderr, "usage: robust FILE\n");
+        return 2;
+    }
+    static uint8_t data[1 << 17];
+    uint8_t length[4];
+    size_t inputs = 0;
+    while (fread(length, 1, 4, f) == 4) {
+        size_t n = length[0] | length[1] << 8 | length[2] << 16;
+        if (n > sizeof data || fread(data, 1, n, f) != n)
+            return 2;
+        LLVMFuzzerTestOneInput(data, n);
+        inputs++;
+    }
+    fclose(f);
+    printf("%zu inputs; answers by number:", inputs);
+    for (int i = 0; i < 64; i++)
+        if (numbers[i])
+            printf(" %d: %llu", i, (unsigned long long)numbers[i]);
+    puts("");
+    return 0;
+}
+#endif
