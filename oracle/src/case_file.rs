@@ -2,7 +2,7 @@
 use std::fmt::Write as _;
 
 use crate::layout::{put_number, Raw, BLASES, SECTIONS, SIZES, TLASES, WIDTHS};
-use crate::side::Case;
+use crate::side::{Case, Part};
 
 const ROOMS: [&str; 7] = ["blas_offsets", "tlas_offsets", "staging_ranges", "instances", "init_ranges", "compactable", "lists"];
 
@@ -159,7 +159,7 @@ pub fn read(text: &str) -> Result<Case, String> {
 }
 
 /// A call's answer, and what it left where the two sides differ.
-pub fn difference(rust: &[crate::side::Part], other: &[crate::side::Part]) -> String {
+pub fn difference(rust: &[Part], other: &[Part]) -> String {
     let mut out = String::new();
     for (a, b) in rust.iter().zip(other) {
         let answer = ["read", "report", "build", "submit", "append"].contains(&a.name);
@@ -178,10 +178,13 @@ pub fn difference(rust: &[crate::side::Part], other: &[crate::side::Part]) -> St
             }
         }
         if a.name == "text" && a != b {
-            let text = |p: &crate::side::Part| {
-                String::from_utf8_lossy(&p.values.iter().map(|&v| v as u8).collect::<Vec<u8>>()).into_owned()
+            // up to its last line; past it stands what was there before
+            let text = |p: &Part| {
+                let bytes: Vec<u8> = p.values.iter().map(|&v| v as u8).collect();
+                let lines = bytes.iter().rposition(|&b| b == b'\n').map_or(0, |end| end + 1);
+                String::from_utf8_lossy(&bytes[..lines]).into_owned()
             };
-            let _ = writeln!(out, "expected text:\n{}\ngot:\n{}", text(a), text(b));
+            let _ = write!(out, "expected text:\n{}got:\n{}", text(a), text(b));
         }
     }
     out

@@ -6,7 +6,7 @@ use published::drive::Mark;
 
 use crate::rust_side::{guarded, RustSide, Tally};
 use crate::side::{Case, Part, Side};
-use crate::{case_file, generate, shrink};
+use crate::{case_file, generate, shrink, watch};
 
 /// Numbers that the Rust, its stand-ins or the paper can give, by call.
 const CAN_GIVE: [(&str, &[u64]); 4] = [
@@ -82,7 +82,9 @@ pub fn run(other: &mut dyn Side, name: &str, count: u64, seed: u64, most: usize,
     let mut rust = RustSide::checked();
     let mut spare = RustSide::default();
     let (mut kinds, mut differences) = (std::collections::BTreeMap::new(), 0);
+    watch::start(seed);
     for index in 0..count {
+        watch::at(index);
         let case = generate::case(seed, index);
         *kinds.entry(case.kind()).or_insert(0u64) += 1;
         if !differs(&mut rust, other, &case) {
@@ -107,11 +109,11 @@ pub fn run(other: &mut dyn Side, name: &str, count: u64, seed: u64, most: usize,
             break;
         }
     }
+    let missing = missing(&rust.tally);
     if !quiet {
         if std::env::var_os("ORACLE_SHORT").is_none() {
             print_tally(&rust.tally);
         }
-        let missing = missing(&rust.tally);
         println!("not reached: {}", if missing.is_empty() { "none".into() } else { missing.join(", ") });
     }
     let counts: Vec<String> = kinds.iter().map(|(k, n)| format!("{n} {k}")).collect();
@@ -121,5 +123,6 @@ pub fn run(other: &mut dyn Side, name: &str, count: u64, seed: u64, most: usize,
         kinds.values().sum::<u64>(),
         counts.join(", ")
     );
-    differences == 0
+    // so many cases reach every number, or the cases are not what they were
+    differences == 0 && (missing.is_empty() || count < 50_000)
 }

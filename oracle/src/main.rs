@@ -15,6 +15,7 @@ mod rng;
 mod rust_side;
 mod shrink;
 mod side;
+mod watch;
 
 use std::io::{Read, Write};
 use std::process::exit;
@@ -25,7 +26,7 @@ use side::Side;
 fn usage() -> ! {
     eprintln!("usage: oracle sheet < SHEET | batch FILE | compare N [SEED] [reading [FAULT]] | case FILE [reading]");
     eprintln!(
-        "       oracle examples [reading] | faults N | mutant K SRC DST | record sheets|submissions FOLDER | corpus N FOLDER"
+        "       oracle examples [reading] | faults N | texts N | mutant K SRC DST | record sheets|submissions FOLDER | corpus N FOLDER"
     );
     exit(2)
 }
@@ -176,6 +177,15 @@ fn run() {
                 exit(2);
             }
             println!("{}", mutants::name(k));
+        }
+        // a case's text must be read as that case
+        Some("texts") => {
+            let Some(count) = word(1).and_then(|w| w.parse().ok()) else { usage() };
+            for index in 0..count {
+                let case = generate::case(1, index);
+                assert_eq!(case_file::read(&case_file::write(&case)).as_ref(), Ok(&case), "case {index}");
+            }
+            println!("texts: {count} cases read as they were written");
         }
         Some("case") => {
             let Some(path) = word(1) else { usage() };
