@@ -45,7 +45,7 @@ pub struct DeclaredIndex {
 }
 
 // One pass, from the last to the first.
-pub fn index_declared(declared: &[u8]) -> DeclaredIndex
+fn index_declared(declared: &[u8]) -> DeclaredIndex
     requires { ⌜ Indexable (now declared) ⌝ }
     ensures { λ r. ⌜ (Heads (now (declared .entry)) (r .head)) × (Nexts (now (declared .entry)) (r .next)) ⌝ }
 {
@@ -63,7 +63,7 @@ pub fn index_declared(declared: &[u8]) -> DeclaredIndex
 }
 
 // The first declared geometry of a Blas.
-pub fn first_declared(declared: &[u8], head: &[u16; 128], blas: BlasId) -> usize
+fn first_declared(declared: &[u8], head: &[u16; 128], blas: BlasId) -> usize
     requires { ⌜ (Heads (now declared) (now head)) × (blas .0 < 128) ⌝ }
     ensures { λ r. ⌜ r ≡ nthOf (now (declared .entry)) (blas .0) 0 ⌝ }
 {
@@ -72,7 +72,7 @@ pub fn first_declared(declared: &[u8], head: &[u16; 128], blas: BlasId) -> usize
 }
 
 // The one after it.
-pub fn next_declared(declared: &[u8], next: &[u16; 512], at: usize) -> usize
+fn next_declared(declared: &[u8], next: &[u16; 512], at: usize) -> usize
     requires { ⌜ length (now declared) / 18 ≤ 512 ⌝ }
     ensures { λ r. ⌜ r ≡ following (now (declared .entry)) (now (next .entry)) at ⌝ }
 {
@@ -139,7 +139,7 @@ pub fn blas_of_entry(blases: &[u8], entries: &[u8], i: usize) -> Blas
 }
 
 // The j-th geometry of entry i, which is geometry g, and for which its Blas declares what stands at a place of section 3.
-pub fn check_geometry_at(
+fn check_geometry_at(
     buffers: &[u8],
     blases: &[u8],
     declared: &[u8],

@@ -37,13 +37,13 @@ pub struct Number {
 }
 
 // Whether bits is a NaN's pattern: without its sign it is above an infinity's.
-pub fn is_nan_bits(bits: u32) -> bool
+fn is_nan_bits(bits: u32) -> bool
     ensures { λ r. ⌜ r ≡ nanBits binary32 bits ⌝ }
 {
     0x7f80_0000 < bits % 0x8000_0000
 }
 
-pub fn number_of_bits(bits: u32) -> Number
+fn number_of_bits(bits: u32) -> Number
     ensures { λ r. ⌜ (r .value ≡ ofBits binary32 bits) × (r .«nan_bits» ≡ nanOf bits) ⌝ }
 {
     if is_nan_bits(bits) {
@@ -59,7 +59,7 @@ pub fn number_of_bits(bits: u32) -> Number
     }
 }
 
-pub fn bits_of_number(value: f32, nan_bits: u32) -> u32
+fn bits_of_number(value: f32, nan_bits: u32) -> u32
     ensures { λ r. ⌜ r ≡ bitsOf value «nan_bits» ⌝ }
 {
     if value != value {
@@ -96,7 +96,7 @@ pub fn instance_from(s: &[u8], at: usize) -> TlasInstance
     }
 }
 
-pub fn put_transform(out: &mut [u8], at: usize, transform: [f32; 12], nan_bits: [u32; 12])
+fn put_transform(out: &mut [u8], at: usize, transform: [f32; 12], nan_bits: [u32; 12])
     requires { ⌜ at + 48 ≤ length (now out) ⌝ }
     ensures { λ _. ⌜ now (out .exit) ≡ sets (now (out .entry)) at (words (patterns transform «nan_bits»)) ⌝ }
 {
@@ -117,7 +117,7 @@ fn put_tail(out: &mut [u8], at: usize, custom_data: u32, mask: u8, address: u64)
     put_u64(out, at + 8, address);
 }
 
-pub fn put_instance(out: &mut [u8], at: usize, instance: TlasInstance, address: u64)
+fn put_instance(out: &mut [u8], at: usize, instance: TlasInstance, address: u64)
     requires { ⌜ (at + 64 ≤ length (now out)) × (instance .«custom_data» < 2 ^ 24) ⌝ }
     ensures { λ _. ⌜ now (out .exit) ≡ sets (now (out .entry)) at (instanceBytes instance address) ⌝ }
 {
@@ -134,7 +134,7 @@ fn returns_vertices(flags: u8) -> bool
 }
 
 // The step of builds and appends: 34, 35.
-pub fn check_instance(tlas: Tlas, blas: Blas, custom_data: u32) -> CheckedInstance
+fn check_instance(tlas: Tlas, blas: Blas, custom_data: u32) -> CheckedInstance
     ensures { λ r. ⌜ instanceCause r ≡ bare (instanceRule tlas blas «custom_data») ⌝ }
 {
     if 16777216 <= custom_data {
@@ -152,7 +152,7 @@ pub fn check_instance(tlas: Tlas, blas: Blas, custom_data: u32) -> CheckedInstan
 }
 
 // 6, 34, 35.
-pub fn check_named_instance(tlas: Tlas, blases: &[u8], instance: TlasInstance) -> CheckedInstance
+fn check_named_instance(tlas: Tlas, blases: &[u8], instance: TlasInstance) -> CheckedInstance
     ensures { λ r. ⌜ instanceCause r ≡ bare (namedInstanceRule tlas (now (blases .entry)) instance) ⌝ }
 {
     let blas = instance.blas;
@@ -167,7 +167,7 @@ pub fn check_named_instance(tlas: Tlas, blases: &[u8], instance: TlasInstance) -
 }
 
 // 6 for the Tlas before those.
-pub fn check_named_tlas(
+fn check_named_tlas(
     tlases: &[u8],
     blases: &[u8],
     tlas: TlasId,
@@ -185,7 +185,7 @@ pub fn check_named_tlas(
     }
 }
 
-pub fn address_of(blases: &[u8], blas: BlasId) -> u64
+fn address_of(blases: &[u8], blas: BlasId) -> u64
     requires { ⌜ blas .0 < length (now blases) / 28 ⌝ }
     ensures { λ r. ⌜ r ≡ blasOf (now (blases .entry)) (blas .0) .handle ⌝ }
 {
@@ -270,7 +270,7 @@ fn put_words(out: &mut [u8], at: usize, ws: [u32; 12])
 
 // Writes what the slot at a place writes, from index end on, and returns the index past it. The slot's numbers are copied by their
 // bits, which gives the bytes of its instance, whatever the patterns.
-pub fn put_slot(blases: &[u8], slots: &[u8], at: usize, instances: &mut [u8], end: usize) -> usize
+fn put_slot(blases: &[u8], slots: &[u8], at: usize, instances: &mut [u8], end: usize) -> usize
     requires { ⌜ (at + 56 ≤ length (now slots)) × (end + length (slotBytes (now blases) (now slots) at) ≤ length (now instances)) ⌝ }
     requires { ⌜ ((fieldAt 8 (now slots) at 0 ≡ 0 → ⊥) → Writable (now blases) (now slots) at) ⌝ }
     ensures { λ r. ⌜ r ≡ end + length (slotBytes (now (blases .entry)) (now (slots .entry)) at) ⌝ }

@@ -31,7 +31,7 @@ ghost use Rattle.plan.specs.Ranges.{dataRange, indexRange, transformRang
 ghost use Rattle.plan.specs.Planned.{planned, Plannable, Room, outputsOf};
 ghost use Rattle.plan.specs.Parts.{ofEntries, ofPackages, entriesIn, packagesIn, EntryBlases, PackageTlases, slotsIn, Drawn, AllWritable, compactableOf, dependencyOf, packageList};
 
-pub fn blas_of_entry(blases: &[u8], entries: &[u8], i: usize) -> Blas
+fn blas_of_entry(blases: &[u8], entries: &[u8], i: usize) -> Blas
     requires { ⌜ (i < entriesIn (now entries)) × EntryBlases (now blases) (now entries) ⌝ }
     ensures { λ r. ⌜ r ≡ blasOfEntry (ofEntries (now (blases .entry)) (now (entries .entry))) i ⌝ }
 {
@@ -39,7 +39,7 @@ pub fn blas_of_entry(blases: &[u8], entries: &[u8], i: usize) -> Blas
     blas_at(blases, blas.0 as usize * 28)
 }
 
-pub fn tlas_of_package(tlases: &[u8], packages: &[u8], p: usize) -> Tlas
+fn tlas_of_package(tlases: &[u8], packages: &[u8], p: usize) -> Tlas
     requires { ⌜ (p < packagesIn (now packages)) × PackageTlases (now tlases) (now packages) ⌝ }
     ensures { λ r. ⌜ r ≡ tlasOfPackage (ofPackages (now (tlases .entry)) (now (packages .entry)) []) p ⌝ }
 {
@@ -55,7 +55,7 @@ fn slot_count_of(packages: &[u8], p: usize) -> usize
 }
 
 // One offset per entry: the total before it.
-pub fn write_blas_offsets(alignment: u32, blases: &[u8], entries: &[u8], out: &mut [u64])
+fn write_blas_offsets(alignment: u32, blases: &[u8], entries: &[u8], out: &mut [u64])
     requires { ⌜ (1 ≤ alignment) × (entriesIn (now entries) ≤ length (now out)) × EntryBlases (now blases) (now entries) ⌝ }
     ensures { λ _. ⌜ now (out .exit) ≡ sets (now (out .entry)) 0 (offsetsFrom (blasScratch (ofEntries (now (blases .entry)) (now (entries .entry)))) alignment 0 0 (entriesIn (now (entries .entry)))) ⌝ }
 {
@@ -70,7 +70,7 @@ pub fn write_blas_offsets(alignment: u32, blases: &[u8], entries: &[u8], out: &m
 }
 
 // One offset per package, from 0 again: Blases and Tlases share the scratch.
-pub fn write_tlas_offsets(alignment: u32, tlases: &[u8], packages: &[u8], out: &mut [u64])
+fn write_tlas_offsets(alignment: u32, tlases: &[u8], packages: &[u8], out: &mut [u64])
     requires { ⌜ (1 ≤ alignment) × (packagesIn (now packages) ≤ length (now out)) × PackageTlases (now tlases) (now packages) ⌝ }
     ensures { λ _. ⌜ now (out .exit) ≡ sets (now (out .entry)) 0 (offsetsFrom (tlasScratch (ofPackages (now (tlases .entry)) (now (packages .entry)) [])) alignment 0 0 (packagesIn (now (packages .entry)))) ⌝ }
 {
@@ -99,7 +99,7 @@ fn put_compactable(blases: &[u8], entries: &[u8], i: usize, out: &mut [u16], at:
     at
 }
 
-pub fn write_compactable(blases: &[u8], entries: &[u8], out: &mut [u16])
+fn write_compactable(blases: &[u8], entries: &[u8], out: &mut [u16])
     requires { ⌜ EntryBlases (now blases) (now entries) ⌝ }
     requires { ⌜ length (compactableFrom (ofEntries (now blases) (now entries)) 0 (entriesIn (now entries))) ≤ length (now out) ⌝ }
     ensures { λ _. ⌜ now (out .exit) ≡ sets (now (out .entry)) 0 (compactableFrom (ofEntries (now (blases .entry)) (now (entries .entry))) 0 (entriesIn (now (entries .entry)))) ⌝ }
@@ -112,7 +112,7 @@ pub fn write_compactable(blases: &[u8], entries: &[u8], out: &mut [u16])
     }
 }
 
-pub fn write_entry_blases(entries: &[u8], out: &mut [u16])
+fn write_entry_blases(entries: &[u8], out: &mut [u16])
     requires { ⌜ entriesIn (now entries) ≤ length (now out) ⌝ }
     ensures { λ _. ⌜ now (out .exit) ≡ sets (now (out .entry)) 0 (entryBlases (ofEntries [] (now (entries .entry))) 0 (entriesIn (now (entries .entry)))) ⌝ }
 {
@@ -136,13 +136,7 @@ fn put_dependency(slots: &[u8], s: usize, out: &mut [u16], at: usize) -> usize
     at + 1
 }
 
-pub fn write_dependencies(
-    slots: &[u8],
-    first: usize,
-    count: usize,
-    out: &mut [u16],
-    at: usize,
-) -> usize
+fn write_dependencies(slots: &[u8], first: usize, count: usize, out: &mut [u16], at: usize) -> usize
     requires { ⌜ (first + count ≤ slotsIn (now slots)) × (at + length (dependenciesFrom (now slots) first count) ≤ length (now out)) ⌝ }
     ensures { λ r. ⌜ r ≡ at + length (dependenciesFrom (now (slots .entry)) first count) ⌝ }
     ensures { λ _. ⌜ now (out .exit) ≡ sets (now (out .entry)) at (dependenciesFrom (now (slots .entry)) first count) ⌝ }
@@ -176,7 +170,7 @@ fn put_package(
     write_dependencies(slots, s, count, out, at + 2)
 }
 
-pub fn write_packages(packages: &[u8], slots: &[u8], out: &mut [u16], at: usize)
+fn write_packages(packages: &[u8], slots: &[u8], out: &mut [u16], at: usize)
     requires { ⌜ Drawn (now packages) (now slots) ⌝ }
     requires { ⌜ at + length (packageLists (ofPackages [] (now packages) (now slots)) 0 0 (packagesIn (now packages))) ≤ length (now out) ⌝ }
     ensures { λ _. ⌜ now (out .exit) ≡ sets (now (out .entry)) at (packageLists (ofPackages [] (now (packages .entry)) (now (slots .entry))) 0 0 (packagesIn (now (packages .entry)))) ⌝ }
@@ -192,7 +186,7 @@ pub fn write_packages(packages: &[u8], slots: &[u8], out: &mut [u16], at: usize)
 }
 
 // The recorded action, a Build: the entries' Blases, then the packages' lists.
-pub fn write_lists(entries: &[u8], packages: &[u8], slots: &[u8], out: &mut [u16])
+fn write_lists(entries: &[u8], packages: &[u8], slots: &[u8], out: &mut [u16])
     requires { ⌜ Drawn (now packages) (now slots) ⌝ }
     requires { ⌜ entriesIn (now entries) + length (packageLists (ofPackages [] (now packages) (now slots)) 0 0 (packagesIn (now packages))) ≤ length (now out) ⌝ }
     ensures { λ _. ⌜ now (out .exit) ≡ sets (now (out .entry)) 0 (entryBlases (ofEntries [] (now (entries .entry))) 0 (entriesIn (now (entries .entry))) ++ packageLists (ofPackages [] (now (packages .entry)) (now (slots .entry))) 0 0 (packagesIn (now (packages .entry)))) ⌝ }
@@ -202,7 +196,7 @@ pub fn write_lists(entries: &[u8], packages: &[u8], slots: &[u8], out: &mut [u16
 }
 
 // Start and end of each package's bytes: 64 for each present slot, without gap.
-pub fn write_staging_ranges(packages: &[u8], slots: &[u8], out: &mut [u64])
+fn write_staging_ranges(packages: &[u8], slots: &[u8], out: &mut [u64])
     requires { ⌜ Drawn (now packages) (now slots) × (2 * packagesIn (now packages) ≤ length (now out)) ⌝ }
     ensures { λ _. ⌜ now (out .exit) ≡ sets (now (out .entry)) 0 (stagingFrom (ofPackages [] (now (packages .entry)) (now (slots .entry))) 0 0 0 (packagesIn (now (packages .entry)))) ⌝ }
 {
@@ -220,7 +214,7 @@ pub fn write_staging_ranges(packages: &[u8], slots: &[u8], out: &mut [u64])
     }
 }
 
-pub fn write_instances(blases: &[u8], slots: &[u8], out: &mut [u8])
+fn write_instances(blases: &[u8], slots: &[u8], out: &mut [u8])
     requires { ⌜ AllWritable (now blases) (now slots) × (64 * presentOf (now slots) 0 (slotsIn (now slots)) ≤ length (now out)) ⌝ }
     ensures { λ _. ⌜ now (out .exit) ≡ sets (now (out .entry)) 0 (slotsBytes (now (blases .entry)) (now (slots .entry)) 0 (slotsIn (now (slots .entry)))) ⌝ }
 {
@@ -321,7 +315,7 @@ fn put_geometry(kind: u8, g: BlasGeometry, out: &mut [u64], at: usize) -> usize
     put_asked(out, end, transform)
 }
 
-pub fn write_entry_ranges(
+fn write_entry_ranges(
     geometries: &[u8],
     kind: u8,
     first: usize,
@@ -369,7 +363,7 @@ fn compactable_cells(blases: &[u8], entries: &[u8], i: usize) -> usize
     if blas.flags / 4 % 2 == 1 { 1 } else { 0 }
 }
 
-pub fn count_compactable(blases: &[u8], entries: &[u8]) -> usize
+fn count_compactable(blases: &[u8], entries: &[u8]) -> usize
     requires { ⌜ EntryBlases (now blases) (now entries) ⌝ }
     ensures { λ r. ⌜ r ≡ length (compactableFrom (ofEntries (now (blases .entry)) (now (entries .entry))) 0 (entriesIn (now (entries .entry)))) ⌝ }
 {
