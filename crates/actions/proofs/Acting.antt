@@ -2,14 +2,14 @@
 use mathlib.Core.Path.{_≡_, refl, sym, ap, _∙_}
 use mathlib.Core.Option.{Option, none, some}
 use mathlib.Core.List.{List, [], _∷_}
-use Prim.Native.Nat.{ℕ, zero, suc, _+_, _*_, _≤_, _<_}
-use native.Mathlib.Nat.{add-suc, add-zero}
+use Prim.Native.Nat.{ℕ, _+_, _*_, _≤_, _<_}
+use native.Mathlib.Nat.{add-suc}
 use native.Mathlib.Numerals.{add-one}
 use lib.ListN.{length, getD, drop, set}
 use lib.Seq.{sets}
 use Rattle.ray_tracing.specs.declared.ValidateAsActionsError.{ValidateAsActionsError}
-use Rattle.ray_tracing.specs.Causes.{Cause, submissionCause}
-use Rattle.ray_tracing.specs.Submission.{Lent, Package, Outcome, accepted, refused, _leaving_, _then_, unless, first, unnumbered, builtBlas, builtBlases, builtTlas, buildTlas, buildTlases, mostDependencies}
+use Rattle.ray_tracing.specs.Causes.{Cause}
+use Rattle.ray_tracing.specs.Submission.{Lent, Package, Outcome, accepted, _leaving_, _then_, unless, first, unnumbered, builtBlas, builtBlases, builtTlas, buildTlas, buildTlases, mostDependencies}
 use Rattle.actions.specs.Outcome.{lentOf, checkedOf, actedOf}
 use Rattle.actions.specs.declared.Checked.{Checked}
 use Rattle.actions.specs.declared.Checked.the-variants.{Fine, Refused}

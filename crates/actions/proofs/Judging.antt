@@ -1,14 +1,14 @@
 -- What is judged before a Build acts: the refusals in their order, and what acting may count on where there is none.
-use mathlib.Core.Path.{_≡_, refl, sym, ap, _∙_}
-use mathlib.Core.Bool.{Bool, true, false, _&&_}
+use mathlib.Core.Path.{_≡_, refl, sym, _∙_}
+use mathlib.Core.Bool.{true, false}
 use mathlib.Core.Option.{Option, none, some}
 use mathlib.Core.List.{List, [], _∷_}
 use Prim.Native.Nat.{ℕ, zero, suc, _+_, _≤_, _<_}
 use native.Mathlib.Omega.{arith}
 use native.Mathlib.Nat.{not-suc-le-zero}
-use lib.Dec.{leb, ltb, eqb}
-use lib.ListN.{length, getD, drop, take}
-use borrow.Author.Tests.{le-leb, lt-leb, lt-ltb, le-ltb, eq-eqb, ne-eqb, ltb-false, leb-false}
+use lib.Dec.{eqb}
+use lib.ListN.{length, drop, take}
+use borrow.Author.Tests.{le-leb, lt-leb, lt-ltb, le-ltb, eq-eqb, ne-eqb}
 use Rattle.ray_tracing.specs.declared.ValidateAsActionsError.{ValidateAsActionsError}
 use Rattle.ray_tracing.specs.Causes.{Cause, bare}
 use Rattle.ray_tracing.specs.Submission.{Lent, Package, on, _or_, first, blasCount, tlasCount, mentionBlas, mentionTlas, mentionPackage, tooMany, compacted, packagesAt, packagesLent, Action, build, malformed, buildAt, before, mostDependencies}
@@ -18,7 +18,7 @@ use Rattle.actions.specs.Outcome.{checkedOf}
 use Rattle.actions.specs.Known.{Inside, Listed, AllListed}
 use Rattle.actions.specs.declared.Checked.{Checked}
 use Rattle.actions.specs.declared.Checked.the-variants.{Fine, Refused}
-use Rattle.actions.proofs.Walks.{refusal, nothing, or-stop, or-pass}
+use Rattle.actions.proofs.Walks.{nothing, or-stop, or-pass}
 use Rattle.actions.proofs.Packages.{tooLong}
 
 -- ---- nothing was refused

@@ -1,18 +1,18 @@
 -- The lists of a Build's Tlases, from a cell on: the first of them and the rest, and what it says that they are lent whole.
 use mathlib.Core.Path.{_≡_, refl, sym, ap, _∙_}
-use mathlib.Core.Bool.{Bool, true, false, false≢true}
+use mathlib.Core.Bool.{true, false, false≢true}
 use native.Mathlib.Decide.{decLt}
 use mathlib.Core.Option.{Option, none, some}
 use mathlib.Core.List.{List, [], _∷_}
-use Prim.Native.Nat.{ℕ, zero, suc, _+_, _*_, _-_, _≤_, _<_}
+use Prim.Native.Nat.{ℕ, zero, suc, _+_, _-_, _≤_, _<_}
 use native.Mathlib.Nat.{not-suc-le-zero}
 use native.Mathlib.Numerals.{sub-one}
 use native.Mathlib.Omega.{arith}
-use lib.Dec.{leb, ltb}
-use lib.ListN.{length, getD, drop, take, length-take, length-drop}
-use borrow.Author.Tests.{le-leb, lt-leb, lt-ltb, le-ltb, leb-true}
+use lib.Dec.{ltb}
+use lib.ListN.{length, getD, length-take, length-drop}
+use borrow.Author.Tests.{le-leb, lt-leb, lt-ltb, le-ltb}
 use Rattle.ray_tracing.specs.Causes.{Cause, bare}
-use Rattle.ray_tracing.specs.Submission.{Lent, Package, on, _or_, first, packageAt, pastPackage, packagesAt, packagesLent, tooMany, mostDependencies}
+use Rattle.ray_tracing.specs.Submission.{Package, on, _or_, first, packageAt, pastPackage, packagesAt, packagesLent, tooMany, mostDependencies}
 
 pub packages-step : (lists : List ℕ) (at n : ℕ) → 0 < n → packagesAt lists at n ≡ packageAt lists at ∷ packagesAt lists (pastPackage lists at) (n - 1)
 unfolding packagesAt

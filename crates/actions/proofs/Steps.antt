@@ -1,21 +1,20 @@
 -- An action as its position in a submission: judged beforehand, then acting.
-use mathlib.Core.Path.{_≡_, refl, sym, ap, _∙_}
-use mathlib.Core.Bool.{Bool, true, false, false≢true}
-use mathlib.Core.Option.{Option, none, some}
-use mathlib.Core.List.{List, [], _∷_}
-use Prim.Native.Nat.{ℕ, zero, suc, _+_, _*_, _≤_, _<_}
+use mathlib.Core.Path.{_≡_, refl, ap, _∙_}
+use mathlib.Core.Bool.{Bool, true, false}
+use mathlib.Core.Option.{none}
+use mathlib.Core.List.{List, []}
+use Prim.Native.Nat.{ℕ, _+_, _≤_}
 use native.Mathlib.Decide.{decLt}
 use native.Mathlib.Nat.{add-zero}
 use native.Mathlib.Omega.{arith}
-use lib.ListN.{length, getD, take, drop}
+use lib.ListN.{length, take, drop}
 use Rattle.ray_tracing.specs.declared.ValidateAsActionsError.{ValidateAsActionsError}
-use Rattle.ray_tracing.specs.Causes.{Cause, bare, submissionCause}
-use Rattle.ray_tracing.specs.Submission.{Lent, Package, Action, build, useTlas, malformed, Outcome, accepted, refused, _leaving_, later, unless, blasCount, tlasCount, packagesAt, packagesLent, buildAt, mentionTlas, before, builtBlases, buildTlases, unusable, act, step}
+use Rattle.ray_tracing.specs.Submission.{Lent, Package, Action, build, useTlas, malformed, Outcome, later, blasCount, tlasCount, packagesAt, packagesLent, buildAt, mentionTlas, before, builtBlases, buildTlases, unusable, act, step}
 use Rattle.actions.specs.Outcome.{lentOf, stepped, checkedOf, actedOf, submittedOf, outcomeOf}
 use Rattle.actions.specs.Known.{Inside, AllListed}
 use Rattle.actions.specs.declared.Checked.{Checked}
 use Rattle.actions.specs.declared.Checked.the-variants.{Fine, Refused}
-use Rattle.actions.proofs.Walks.{refusal, nothing}
+use Rattle.actions.proofs.Walks.{refusal}
 use Rattle.actions.proofs.Judging.{known-build, build-short, build-cut, build-whole, before-malformed}
 
 -- ---- a Build that was judged

@@ -1,15 +1,12 @@
 -- For each loop over a list: what one turn leaves of the definition, and what is left at the end. The loop's body answers as f does of
 -- the element, and the loop goes on where that is nothing.
-use mathlib.Core.Path.{_≡_, refl, sym, ap, _∙_}
-use mathlib.Core.Bool.{Bool, true, false}
+use mathlib.Core.Path.{_≡_, sym, ap, _∙_}
 use mathlib.Core.Option.{Option, none, some}
 use mathlib.Core.List.{List, [], _∷_}
-use Prim.Native.Nat.{ℕ, zero, suc, _+_, _*_, _-_, _≤_, _<_}
-use native.Mathlib.Nat.{add-suc, add-zero}
+use Prim.Native.Nat.{ℕ, _+_, _-_, _≤_, _<_}
 use native.Mathlib.Numerals.{add-one}
-use native.Mathlib.Omega.{arith}
-use lib.ListN.{length, getD, drop, set, drop-of-length-le, take, length-drop}
-use lib.Seq.{sets, drop-cons, take-all}
+use lib.ListN.{length, getD, drop, drop-of-length-le}
+use lib.Seq.{drop-cons}
 use Rattle.ray_tracing.specs.declared.Mentioned.{Mentioned}
 use Rattle.ray_tracing.specs.declared.Mentioned.the-variants as mentioned
 use Rattle.ray_tracing.specs.declared.ValidateAsActionsError.{ValidateAsActionsError}
@@ -36,10 +33,6 @@ rest-step l k h = rw add-one (drop-cons l k 0 h)
 
 pub rest-done : (l : List ℕ) (k : ℕ) → length l ≤ k → drop k l ≡ []
 rest-done l k h = drop-of-length-le l h
-
--- the part from a to the end
-pub part-all : (l : List ℕ) (a : ℕ) → take (length l - a) (drop a l) ≡ drop a l
-part-all l a = take-all (length l - a) (drop a l) (rw length-drop (omega arith))
 
 -- ---- a search
 

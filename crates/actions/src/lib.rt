@@ -15,7 +15,7 @@ ghost use mathlib.Core.Path.{_≡_};
 ghost use mathlib.Core.Bool.{true};
 ghost use mathlib.Core.Option.{none};
 ghost use mathlib.Core.List.{[], _∷_};
-ghost use Prim.Native.Nat.{ℕ, _+_, _-_, _*_, _^_, _≤_, _<_};
+ghost use Prim.Native.Nat.{_+_, _-_, _*_, _^_, _≤_, _<_};
 ghost use lib.ListN.{length, getD};
 ghost use lib.Seq.{sets};
 ghost use Rattle.ray_tracing.specs.Submission as Submission;
@@ -29,7 +29,7 @@ pub enum Checked {
     Refused(ValidateAsActionsError),
 }
 
-// Mentions of ids.
+// A mention of an id, judged.
 pub fn judge_blas(blases: &[u8], id: usize) -> Checked
     ensures { λ r. ⌜ checkedOf r ≡ mentionBlas (blasesOf (now (blases .entry))) id ⌝ }
 {
@@ -149,6 +149,7 @@ fn blas_of(blases: &[u8], id: BlasId) -> Blas
     blas_at(blases, id.0 as usize * 28)
 }
 
+// 41.
 fn judge_compacted(blases: &[u8], ids: &[u16]) -> Checked
     requires { ⌜ Inside (now ids) (blasesIn (now blases)) ⌝ }
     ensures { λ r. ⌜ checkedOf r ≡ first (compacted (blasesOf (now (blases .entry)))) (now (ids .entry)) ⌝ }

@@ -3,21 +3,20 @@
 use mathlib.Core.Path.{_≡_, refl, sym, ap, _∙_}
 use mathlib.Core.Option.{none}
 use mathlib.Core.List.{List, [], _∷_}
-use Prim.Native.Nat.{ℕ, zero, suc, _+_, _≤_, _<_}
-use native.Mathlib.Nat.{add-zero}
+use Prim.Native.Nat.{ℕ, _+_, _≤_}
 use lib.ListN.{length, drop}
 use Rattle.ray_tracing.specs.declared.Submitted.{Submitted}
 use Rattle.ray_tracing.specs.declared.Submitted.the-variants as submitted
 use Rattle.ray_tracing.specs.declared.ValidateAsActionsError.{ValidateAsActionsError}
-use Rattle.ray_tracing.specs.Causes.{Cause, bare, submissionCause}
+use Rattle.ray_tracing.specs.Causes.{bare}
 use Rattle.ray_tracing.specs.Submission.{Lent, Action, malformed, decodeCells, Outcome, accepted, refused, _leaving_, left, _then_, later, judge, step, run, submission, answerNumbers}
-use Rattle.ray_tracing.proofs.Firsts.{later-then, later-later, later-zero, left-later}
+use Rattle.ray_tracing.proofs.Firsts.{later-later, left-later}
 use Rattle.ray_tracing.proofs.Sound.{Sound, judged, sound-submission}
 use Rattle.actions.specs.Outcome.{lentOf, checkedOf, submittedOf, answerOf, counterOf, outcomeOf}
 use Rattle.submission.specs.Numbers.{told, numbersOf, toldOf}
 use Rattle.submission.specs.declared.Validated.{Validated}
 use Rattle.actions.specs.declared.Checked.{Checked}
-use Rattle.actions.specs.declared.Checked.the-variants.{Fine, Refused}
+use Rattle.actions.specs.declared.Checked.the-variants.{Refused}
 use Rattle.actions.proofs.Walks.{refusal}
 use Rattle.submission.proofs.ByKind.{malformed-step}
 

@@ -6,13 +6,11 @@ use lib.ListN.{length}
 use native.Mathlib.Omega.{arith}
 use mathlib.Core.List.{[]}
 use mathlib.Core.Bool.{true}
-use Prim.Native.Nat.{_≤_, _-_, _+_}
-use mathlib.Core.Path.{_≡_, refl, sym, _∙_}
+use Prim.Native.Nat.{_≤_, _-_}
+use mathlib.Core.Path.{_≡_}
 use borrow.Author.Needs.{needs}
 use Rattle.actions.proofs.judge_counts.Statement.{statement}
 use Rattle.actions.proofs.judge_counts.Tie as tie
-use Rattle.actions.proofs.judge_counts.Reads as reads
-use Rattle.actions.proofs.judge_counts.Lts as lts
 
 abbrev Inv-loop : tie.InvT-loop
 Inv-loop lists start tlas-count left₀ at₀ left at = (packagesLent lists at left ≡ true) × (first tooLong (packagesAt lists at left) ≡ tooMany [] (packagesAt lists start tlas-count))
@@ -23,55 +21,36 @@ abbrev μ-loop : tie.MeasureT-loop
 whole : (c : tie.In-loop Inv-loop μ-loop) → pastPackage (c .before .before .before .args .lists .now) (c .before .loop .at) ≤ length (c .before .before .before .args .lists .now)
 whole c = lent-first _ _ _ (c .loop-test .taken) (c .before .loop .inv .0)
 
--- src/lib.rt:122:9
 returns : tie.Need-returns Inv-loop μ-loop
 returns c = many-tlases _ _ _ (c .if1 .taken)
 
--- src/lib.rt:126:5
 loop-holds : tie.Need-loop-holds Inv-loop μ-loop
 loop-holds c = (c .before .pre, few-tlases _ _ _ (c .if1 .left))
 
--- src/lib.rt:127:27
 add-count : tie.Need-add-count Inv-loop μ-loop
 add-count c = omega (arith, whole c)
 
--- src/lib.rt:127:21
 mul-count : tie.Need-mul-count Inv-loop μ-loop
 mul-count c = omega (arith, whole c)
 
--- src/lib.rt:127:21
 shared-slice-read-count : tie.Need-shared-slice-read-count Inv-loop μ-loop
 shared-slice-read-count c = omega (arith, whole (c .before))
 
--- src/lib.rt:127:21
 cast-count : tie.Need-cast-count Inv-loop μ-loop
 cast-count c = omega (arith, whole (c .before))
 
--- src/lib.rt:129:13
 returns-2 : tie.Need-returns-2 Inv-loop μ-loop
 returns-2 c = found tooLong (packages-step _ _ _ (c .before .before .loop-test .taken)) (c .before .before .before .loop .inv .1) (is-long (c .before .before .before .before .before .args .lists .now) (c .before .before .before .loop .at) (whole (c .before .before)) (c .if2 .taken))
 
--- src/lib.rt:131:14
 add-at : tie.Need-add-at Inv-loop μ-loop
 add-at c = omega (arith, whole (c .before .before))
 
--- src/lib.rt:131:14
 add-at-2 : tie.Need-add-at-2 Inv-loop μ-loop
 add-at-2 c = omega (arith, whole (c .before .before))
 
--- src/lib.rt:132:9
-sub-left : tie.Need-sub-left Inv-loop μ-loop
-sub-left c = search needs
-
--- src/lib.rt:126:5
-loop-less : tie.Need-loop-less Inv-loop μ-loop
-loop-less c = search needs
-
--- src/lib.rt:126:5
 loop-again : tie.Need-loop-again Inv-loop μ-loop
 loop-again c = (lent-rest _ _ _ (c .before .before .loop-test .taken) (c .before .before .before .loop .inv .0), passed tooLong (packages-step _ _ _ (c .before .before .loop-test .taken)) (c .before .before .before .loop .inv .1) (not-long (c .before .before .before .before .before .args .lists .now) (c .before .before .before .loop .at) (whole (c .before .before)) (c .if2 .left)))
 
--- src/lib.rt:117:1
 returns-3 : tie.Need-returns-3 Inv-loop μ-loop
 returns-3 c = ends tooLong (packages-done _ _ _ (c .loop-test .left)) (c .before .loop .inv .1)
 
@@ -90,7 +69,7 @@ judge-counts-spec =
     returns-2
     add-at
     add-at-2
-    sub-left
-    loop-less
+    (λ c. search needs)
+    (λ c. search needs)
     loop-again
     returns-3)

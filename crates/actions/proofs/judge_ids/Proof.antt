@@ -9,9 +9,6 @@ use mathlib.Core.Path.{_≡_}
 use borrow.Author.Needs.{needs}
 use Rattle.actions.proofs.judge_ids.Statement.{statement}
 use Rattle.actions.proofs.judge_ids.Tie as tie
-use Rattle.actions.proofs.judge_ids.Reads as reads
-use Rattle.actions.proofs.judge_ids.Lts as lts
-use Rattle.actions.proofs.judge_blas.Reads as judge-blas-reads
 
 abbrev Inv-loop : tie.InvT-loop
 Inv-loop blases ids k₀ k = (k ≤ length ids) × (first (mentionBlas (blasesOf blases)) (drop k ids) ≡ first (mentionBlas (blasesOf blases)) ids)
@@ -19,50 +16,15 @@ Inv-loop blases ids k₀ k = (k ≤ length ids) × (first (mentionBlas (blasesOf
 abbrev μ-loop : tie.MeasureT-loop
 μ-loop blases ids k₀ k = length ids - k
 
--- src/lib.rt:54:5
-loop-holds : tie.Need-loop-holds Inv-loop μ-loop
-loop-holds c = search needs
-
--- src/lib.rt:55:42
-mul-judge-blas : tie.Need-mul-judge-blas Inv-loop μ-loop
-mul-judge-blas c = search needs
-
--- src/lib.rt:55:42
-shared-slice-read-judge-blas : tie.Need-shared-slice-read-judge-blas Inv-loop μ-loop
-shared-slice-read-judge-blas c = search needs
-
--- src/lib.rt:55:42
 cast-judge-blas : tie.Need-cast-judge-blas Inv-loop μ-loop
 cast-judge-blas c = omega (arith, c .shared-slice-known3 .given (c .before .before .loop .k))
 
--- src/lib.rt:55:13
-judge-blas-requires : tie.Need-judge-blas-requires Inv-loop μ-loop
-judge-blas-requires c κs = search needs
-
--- src/lib.rt:57:13
-enum-told : tie.Need-enum-told Inv-loop μ-loop
-enum-told c = search needs
-
--- src/lib.rt:57:13
 returns : tie.Need-returns Inv-loop μ-loop
 returns c = stops (mentionBlas (blasesOf (c .before .before .before .before .before .before .before .before .args .blases .now))) (rest-step _ _ (c .before .before .before .before .loop-test .taken)) (c .before .before .before .before .before .loop .inv .1) (c .before .before .judge-blas .ensures) (c .enum-told .given .1)
 
-enum-told-2 : tie.Need-enum-told-2 Inv-loop μ-loop
-enum-told-2 c = search needs
-
--- src/lib.rt:59:9
-add-k : tie.Need-add-k Inv-loop μ-loop
-add-k c = search needs
-
--- src/lib.rt:54:5
-loop-less : tie.Need-loop-less Inv-loop μ-loop
-loop-less c = search needs
-
--- src/lib.rt:54:5
 loop-again : tie.Need-loop-again Inv-loop μ-loop
 loop-again c = (search needs, goes-on (mentionBlas (blasesOf (c .before .before .before .before .before .before .before .before .args .blases .now))) (rest-step _ _ (c .before .before .before .before .loop-test .taken)) (c .before .before .before .before .before .loop .inv .1) (c .before .before .judge-blas .ensures) (c .enum-told2 .given .1))
 
--- src/lib.rt:50:1
 returns-2 : tie.Need-returns-2 Inv-loop μ-loop
 returns-2 c = ends (mentionBlas (blasesOf (c .before .before .before .before .args .blases .now))) (rest-done _ _ (c .loop-test .left)) (c .before .loop .inv .1)
 
@@ -72,15 +34,15 @@ judge-ids-spec =
     (tie.spec
     Inv-loop
     μ-loop
-    loop-holds
-    mul-judge-blas
-    shared-slice-read-judge-blas
+    (λ c. search needs)
+    (λ c. search needs)
+    (λ c. search needs)
     cast-judge-blas
-    judge-blas-requires
-    enum-told
+    (λ c κs. search needs)
+    (λ c. search needs)
     returns
-    enum-told-2
-    add-k
-    loop-less
+    (λ c. search needs)
+    (λ c. search needs)
+    (λ c. search needs)
     loop-again
     returns-2)

@@ -4,15 +4,11 @@ use Rattle.actions.specs.Outcome.{blasesOf}
 use Rattle.ray_tracing.specs.Submission.{first, unnumbered}
 use borrow.Author.Tests.{eq-eqb, ne-eqb}
 use lib.ListN.{length, drop}
-use native.Mathlib.Omega.{arith}
 use Prim.Native.Nat.{_≤_, _-_}
-use mathlib.Core.Path.{_≡_, sym}
+use mathlib.Core.Path.{_≡_}
 use borrow.Author.Needs.{needs}
 use Rattle.actions.proofs.judge_numbers.Statement.{statement}
 use Rattle.actions.proofs.judge_numbers.Tie as tie
-use Rattle.actions.proofs.judge_numbers.Reads as reads
-use Rattle.actions.proofs.judge_numbers.Lts as lts
-use Rattle.actions.proofs.blas_of.Reads as blas-of-reads
 
 abbrev Inv-loop : tie.InvT-loop
 Inv-loop blases tlas ids k₀ k = (k ≤ length ids) × (first (unnumbered (blasesOf blases) (tlas .0)) (drop k ids) ≡ first (unnumbered (blasesOf blases) (tlas .0)) ids)
@@ -20,39 +16,15 @@ Inv-loop blases tlas ids k₀ k = (k ≤ length ids) × (first (unnumbered (blas
 abbrev μ-loop : tie.MeasureT-loop
 μ-loop blases tlas ids k₀ k = length ids - k
 
--- src/lib.rt:345:5
-loop-holds : tie.Need-loop-holds Inv-loop μ-loop
-loop-holds c = search needs
-
--- src/lib.rt:346:25
-mul-t7 : tie.Need-mul-t7 Inv-loop μ-loop
-mul-t7 c = search needs
-
--- src/lib.rt:346:25
-shared-slice-read-t10 : tie.Need-shared-slice-read-t10 Inv-loop μ-loop
-shared-slice-read-t10 c = search needs
-
--- src/lib.rt:347:13
 blas-of-requires : tie.Need-blas-of-requires Inv-loop μ-loop
 blas-of-requires c κs = c .before .before .before .before .before .pre (c .before .before .loop .k) (search needs)
 
--- src/lib.rt:349:13
 returns : tie.Need-returns Inv-loop μ-loop
 returns c = let a = c .before .before .before .before .before .before .before .before .args in found (unnumbered (blasesOf (a .blases .now)) (a .tlas .0)) (rest-step _ _ (c .before .before .before .before .loop-test .taken)) (c .before .before .before .before .before .loop .inv .1) (rw (← c .before .before .blas-of .ensures, eq-eqb _ _ (c .if1 .taken)))
 
--- src/lib.rt:351:9
-add-k : tie.Need-add-k Inv-loop μ-loop
-add-k c = search needs
-
--- src/lib.rt:345:5
-loop-less : tie.Need-loop-less Inv-loop μ-loop
-loop-less c = search needs
-
--- src/lib.rt:345:5
 loop-again : tie.Need-loop-again Inv-loop μ-loop
 loop-again c = let a = c .before .before .before .before .before .before .before .before .args in (search needs, passed (unnumbered (blasesOf (a .blases .now)) (a .tlas .0)) (rest-step _ _ (c .before .before .before .before .loop-test .taken)) (c .before .before .before .before .before .loop .inv .1) (rw (← c .before .before .blas-of .ensures, ne-eqb _ _ (c .if1 .left))))
 
--- src/lib.rt:340:1
 returns-2 : tie.Need-returns-2 Inv-loop μ-loop
 returns-2 c = let a = c .before .before .before .before .args in ends (unnumbered (blasesOf (a .blases .now)) (a .tlas .0)) (rest-done _ _ (c .loop-test .left)) (c .before .loop .inv .1)
 
@@ -62,12 +34,12 @@ judge-numbers-spec =
     (tie.spec
     Inv-loop
     μ-loop
-    loop-holds
-    mul-t7
-    shared-slice-read-t10
+    (λ c. search needs)
+    (λ c. search needs)
+    (λ c. search needs)
     blas-of-requires
     returns
-    add-k
-    loop-less
+    (λ c. search needs)
+    (λ c. search needs)
     loop-again
     returns-2)

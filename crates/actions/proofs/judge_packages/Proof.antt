@@ -6,14 +6,11 @@ use Rattle.ray_tracing.specs.Submission.{first, packagesAt, packagesLent, menti
 use lib.ListN.{length}
 use native.Mathlib.Omega.{arith}
 use mathlib.Core.Bool.{true}
-use Prim.Native.Nat.{_≤_, _-_, _+_}
-use mathlib.Core.Path.{_≡_, refl, sym, _∙_}
+use Prim.Native.Nat.{_≤_, _-_}
+use mathlib.Core.Path.{_≡_, refl}
 use borrow.Author.Needs.{needs}
 use Rattle.actions.proofs.judge_packages.Statement.{statement}
 use Rattle.actions.proofs.judge_packages.Tie as tie
-use Rattle.actions.proofs.judge_packages.Reads as reads
-use Rattle.actions.proofs.judge_packages.Lts as lts
-use Rattle.actions.proofs.judge_package.Reads as judge-package-reads
 
 abbrev Inv-loop : tie.InvT-loop
 Inv-loop blases tlases lists start tlas-count left₀ at₀ left at = (packagesLent lists at left ≡ true) × (first (mentionPackage (tablesOf blases tlases)) (packagesAt lists at left) ≡ first (mentionPackage (tablesOf blases tlases)) (packagesAt lists start tlas-count))
@@ -24,62 +21,36 @@ abbrev μ-loop : tie.MeasureT-loop
 whole : (c : tie.In-loop Inv-loop μ-loop) → pastPackage (c .before .before .before .before .before .args .lists .now) (c .before .loop .at) ≤ length (c .before .before .before .before .before .args .lists .now)
 whole c = lent-first _ _ _ (c .loop-test .taken) (c .before .loop .inv .0)
 
--- src/lib.rt:157:5
 loop-holds : tie.Need-loop-holds Inv-loop μ-loop
 loop-holds c = (c .before .before .before .pre, refl)
 
--- src/lib.rt:158:13
 judge-package-requires : tie.Need-judge-package-requires Inv-loop μ-loop
 judge-package-requires c κs = whole c
 
--- src/lib.rt:160:13
-enum-told : tie.Need-enum-told Inv-loop μ-loop
-enum-told c = search needs
-
--- src/lib.rt:160:13
 returns : tie.Need-returns Inv-loop μ-loop
 returns c = let a = c .before .before .before .before .before .before .before .before .args in stops (mentionPackage (tablesOf (a .blases .now) (a .tlases .now))) (packages-step _ _ _ (c .before .before .before .loop-test .taken)) (c .before .before .before .before .loop .inv .1) (c .before .before .judge-package .ensures) (c .enum-told .given .1)
 
-enum-told-2 : tie.Need-enum-told-2 Inv-loop μ-loop
-enum-told-2 c = search needs
-
--- src/lib.rt:162:14
 add-at : tie.Need-add-at Inv-loop μ-loop
 add-at c = omega (arith, whole (c .before .before .before))
 
--- src/lib.rt:162:29
 add-at-2 : tie.Need-add-at-2 Inv-loop μ-loop
 add-at-2 c = omega (arith, whole (c .before .before .before))
 
--- src/lib.rt:162:23
 mul-at : tie.Need-mul-at Inv-loop μ-loop
 mul-at c = omega (arith, whole (c .before .before .before))
 
--- src/lib.rt:162:23
 shared-slice-read-at : tie.Need-shared-slice-read-at Inv-loop μ-loop
 shared-slice-read-at c = omega (arith, whole (c .before .before .before .before))
 
--- src/lib.rt:162:23
 cast-at : tie.Need-cast-at Inv-loop μ-loop
 cast-at c = omega (arith, whole (c .before .before .before .before))
 
--- src/lib.rt:162:14
 add-at-3 : tie.Need-add-at-3 Inv-loop μ-loop
 add-at-3 c = omega (arith, whole (c .before .before .before .before))
 
--- src/lib.rt:163:9
-sub-left : tie.Need-sub-left Inv-loop μ-loop
-sub-left c = search needs
-
--- src/lib.rt:157:5
-loop-less : tie.Need-loop-less Inv-loop μ-loop
-loop-less c = search needs
-
--- src/lib.rt:157:5
 loop-again : tie.Need-loop-again Inv-loop μ-loop
 loop-again c = let a = c .before .before .before .before .before .before .before .before .before .args in (lent-rest _ _ _ (c .before .before .before .before .loop-test .taken) (c .before .before .before .before .before .loop .inv .0), goes-on (mentionPackage (tablesOf (a .blases .now) (a .tlases .now))) (packages-step _ _ _ (c .before .before .before .before .loop-test .taken)) (c .before .before .before .before .before .loop .inv .1) (c .before .before .before .judge-package .ensures) (c .before .enum-told2 .given .1))
 
--- src/lib.rt:151:1
 returns-2 : tie.Need-returns-2 Inv-loop μ-loop
 returns-2 c = let a = c .before .before .before .before .before .args in ends (mentionPackage (tablesOf (a .blases .now) (a .tlases .now))) (packages-done _ _ _ (c .loop-test .left)) (c .before .loop .inv .1)
 
@@ -91,16 +62,16 @@ judge-packages-spec =
     μ-loop
     loop-holds
     judge-package-requires
-    enum-told
+    (λ c. search needs)
     returns
-    enum-told-2
+    (λ c. search needs)
     add-at
     add-at-2
     mul-at
     shared-slice-read-at
     cast-at
     add-at-3
-    sub-left
-    loop-less
+    (λ c. search needs)
+    (λ c. search needs)
     loop-again
     returns-2)

@@ -6,55 +6,22 @@ use mathlib.Core.List.{[]}
 use borrow.Author.Needs.{needs}
 use Rattle.actions.proofs.judge_whole_build.Statement.{statement}
 use Rattle.actions.proofs.judge_whole_build.Tie as tie
-use Rattle.actions.proofs.judge_whole_build.Reads as reads
-use Rattle.actions.proofs.judge_whole_build.Lts as lts
-use Rattle.actions.proofs.judge_compacted.Reads as judge-compacted-reads
-use Rattle.actions.proofs.judge_counts.Reads as judge-counts-reads
-use Rattle.actions.proofs.judge_mentions.Reads as judge-mentions-reads
 
--- src/lib.rt:251:9
 returns : tie.Need-returns
 returns c = many-blases _ _ _ (c .if1 .taken)
 
--- src/lib.rt:253:9
-judge-counts-requires : tie.Need-judge-counts-requires
-judge-counts-requires c κs = search needs
-
--- src/lib.rt:255:9
-enum-told : tie.Need-enum-told
-enum-told c = search needs
-
--- src/lib.rt:255:9
 returns-2 : tie.Need-returns-2
 returns-2 c = let a = c .before .before .before .before .before .before .before .before .args in refused-4 (lentOf (a .counter) (a .blases .now) (a .tlases .now) [] []) _ _ (c .before .before .before .if1 .left) (c .before .before .judge-counts .ensures) (c .enum-told .given .1)
 
-enum-told-2 : tie.Need-enum-told-2
-enum-told-2 c = search needs
-
--- src/lib.rt:257:9
-judge-mentions-requires : tie.Need-judge-mentions-requires
-judge-mentions-requires c κs = search needs
-
--- src/lib.rt:259:9
-enum-told-3 : tie.Need-enum-told-3
-enum-told-3 c = search needs
-
--- src/lib.rt:259:9
 returns-3 : tie.Need-returns-3
 returns-3 c = let a = c .before .before .before .before .before .before .before .before .before .before .before .args in refused-6 (lentOf (a .counter) (a .blases .now) (a .tlases .now) [] []) _ _ (c .before .before .before .before .before .before .if1 .left) (c .before .before .before .before .before .judge-counts .ensures) (c .before .before .before .enum-told2 .given .1) (c .before .before .judge-mentions .ensures) (c .enum-told3 .given .1)
 
-enum-told-4 : tie.Need-enum-told-4
-enum-told-4 c = search needs
-
--- src/lib.rt:262:9
 returns-4 : tie.Need-returns-4
 returns-4 c = let a = c .before .before .before .before .before .before .before .before .before .before .before .before .args in refused-40 (lentOf (a .counter) (a .blases .now) (a .tlases .now) [] []) _ _ (c .before .before .before .before .before .before .before .if1 .left) (c .before .before .before .before .before .before .judge-counts .ensures) (c .before .before .before .before .enum-told2 .given .1) (c .before .before .before .judge-mentions .ensures) (c .before .enum-told4 .given .1) (c .if2 .taken)
 
--- src/lib.rt:264:5
 judge-compacted-requires : tie.Need-judge-compacted-requires
 judge-compacted-requires c κs = let a = c .before .before .before .before .before .before .before .before .before .before .before .before .args in known-ids (lentOf (a .counter) (a .blases .now) (a .tlases .now) [] []) (a .ids .now) (packagesAt (a .lists .now) (a .at) (a .tlas-count)) (c .before .before .before .before .before .before .before .if1 .left) (c .before .before .before .before .before .before .judge-counts .ensures) (c .before .before .before .before .enum-told2 .given .1) (c .before .before .before .judge-mentions .ensures) (c .before .enum-told4 .given .1)
 
--- src/lib.rt:238:1
 returns-5 : tie.Need-returns-5
 returns-5 c = let a = c .before .before .before .before .before .before .before .before .before .before .before .before .before .args in judged-41 (lentOf (a .counter) (a .blases .now) (a .tlases .now) [] []) _ _ (c .before .before .before .before .before .before .before .before .if1 .left) (c .before .before .before .before .before .before .before .judge-counts .ensures) (c .before .before .before .before .before .enum-told2 .given .1) (c .before .before .before .before .judge-mentions .ensures) (c .before .before .enum-told4 .given .1) (c .before .if2 .left) (c .judge-compacted .ensures)
 
@@ -63,14 +30,14 @@ judge-whole-build-spec =
     tie.close
     (tie.spec
     returns
-    judge-counts-requires
-    enum-told
+    (λ c κs. search needs)
+    (λ c. search needs)
     returns-2
-    enum-told-2
-    judge-mentions-requires
-    enum-told-3
+    (λ c. search needs)
+    (λ c κs. search needs)
+    (λ c. search needs)
     returns-3
-    enum-told-4
+    (λ c. search needs)
     returns-4
     judge-compacted-requires
     returns-5)

@@ -1,58 +1,29 @@
 -- `actions::use_action` meets its contract: each return is the definition's own case. Assumes nothing.
 use Rattle.actions.specs.Known.{tlasesIn}
-use Prim.Native.Nat.{_<_}
 use Rattle.actions.proofs.Walks.{nothing}
 use Rattle.actions.proofs.Steps.{step-refused, step-acted, before-use, use-acts}
 use Rattle.actions.proofs.Start.{Ready, ready}
 use Rattle.actions.specs.Outcome.{lentOf}
 use Rattle.ray_tracing.specs.Submission.{useTlas}
 use Rattle.ray_tracing.proofs.Firsts.{inside}
-use mathlib.Core.Path.{refl, _∙_, sym}
+use mathlib.Core.Path.{_∙_, sym}
 use native.Mathlib.Omega.{arith}
 use borrow.Author.Needs.{needs}
 use Rattle.actions.proofs.use_action.Statement.{statement}
 use Rattle.actions.proofs.use_action.Tie as tie
-use Rattle.actions.proofs.use_action.Reads as reads
-use Rattle.actions.proofs.use_action.Lts as lts
-use Rattle.actions.proofs.judge_tlas.Reads as judge-tlas-reads
-use Rattle.actions.proofs.submitted.Reads as submitted-reads
-use Rattle.actions.proofs.use_tlas.Reads as use-tlas-reads
 
 known : (c : tie.Start) → Ready (lentOf (c .args .counter) (c .args .blases .now) (c .args .tlases .now) (c .args .dependency-counts .now) (c .args .dependencies .now))
 known c = ready _ (c .fits .counter .fits) (c .pre)
 
--- src/lib.rt:544:9
-judge-tlas-requires : tie.Need-judge-tlas-requires
-judge-tlas-requires c κs = search needs
-
--- src/lib.rt:546:9
-enum-told : tie.Need-enum-told
-enum-told c = search needs
-
--- src/lib.rt:546:9
-submitted-requires : tie.Need-submitted-requires
-submitted-requires c κs = search needs
-
--- src/lib.rt:546:9
 returns : tie.Need-returns
 returns c = let a = c .before .before .before .before .before .before .before .before .args in let l = lentOf (a .counter) (a .blases .now) (a .tlases .now) (a .dependency-counts .now) (a .dependencies .now) in rw (c .submitted .ensures) (step-refused l (useTlas (a .operand)) (a .index) _ (c .before .before .before .judge-tlas .ensures ∙ sym (before-use l (a .operand))) (c .before .enum-told .given .1))
 
-enum-told-2 : tie.Need-enum-told-2
-enum-told-2 c = search needs
-
--- src/lib.rt:548:23
 cast-t10 : tie.Need-cast-t10
 cast-t10 c = let a = c .before .before .before .before .before .before .before .args in omega (arith, inside (tlasesIn (a .tlases .now)) (a .operand) (nothing (c .before .before .judge-tlas .ensures) (c .enum-told2 .given .1)), known (c .before .before .before .before .before .before .before))
 
--- src/lib.rt:549:15
 use-tlas-requires : tie.Need-use-tlas-requires
 use-tlas-requires c κs = let a = c .before .before .before .before .before .before .before .args in let h = inside (tlasesIn (a .tlases .now)) (a .operand) (nothing (c .before .before .judge-tlas .ensures) (c .enum-told2 .given .1)) in let k = known (c .before .before .before .before .before .before .before) in (h, (k .room, (k .few _ h, k .inside _ h)))
 
--- src/lib.rt:549:5
-submitted-requires-2 : tie.Need-submitted-requires-2
-submitted-requires-2 c κs = search needs
-
--- src/lib.rt:531:1
 returns-2 : tie.Need-returns-2
 returns-2 c = let a = c .before .before .before .before .before .before .before .before .before .args in let l = lentOf (a .counter) (a .blases .now) (a .tlases .now) (a .dependency-counts .now) (a .dependencies .now) in rw (c .submitted2 .ensures) (step-acted l (useTlas (a .operand)) (a .index) (c .before .use-tlas .result) (a .counter) _ _ _ _ (before-use l (a .operand) ∙ nothing (c .before .before .before .before .judge-tlas .ensures) (c .before .before .enum-told2 .given .1)) (use-acts l (a .operand) (c .before .use-tlas .result) (c .before .use-tlas .ensures)))
 
@@ -60,12 +31,12 @@ pub use-action-spec : {M : Type 1} → statement M
 use-action-spec =
     tie.close
     (tie.spec
-    judge-tlas-requires
-    enum-told
-    submitted-requires
+    (λ c κs. search needs)
+    (λ c. search needs)
+    (λ c κs. search needs)
     returns
-    enum-told-2
+    (λ c. search needs)
     cast-t10
     use-tlas-requires
-    submitted-requires-2
+    (λ c κs. search needs)
     returns-2)

@@ -1,24 +1,17 @@
 -- `actions::use_blas` meets its contract: each return is the definition's own case. Assumes nothing.
 use borrow.Author.Tests.{eq-eqb, ne-eqb, lt-ltb, le-ltb}
-use borrow.Author.Needs.{needs}
 use Rattle.actions.proofs.use_blas.Statement.{statement}
 use Rattle.actions.proofs.use_blas.Tie as tie
-use Rattle.actions.proofs.use_blas.Reads as reads
-use Rattle.actions.proofs.use_blas.Lts as lts
 
--- src/lib.rt:486:9
 returns : tie.Need-returns
 returns c = λ l e f. rw (e, eq-eqb _ _ (c .if1 .taken))
 
--- src/lib.rt:489:9
 returns-2 : tie.Need-returns-2
 returns-2 c = λ l e f. rw (e, f, ne-eqb _ _ (c .before .before .if1 .left), lt-ltb _ _ (c .if2 .taken))
 
--- src/lib.rt:492:9
 returns-3 : tie.Need-returns-3
 returns-3 c = λ l e f. rw (e, f, ne-eqb _ _ (c .before .before .before .before .if1 .left), le-ltb _ _ (c .before .before .if2 .left), eq-eqb _ _ (c .if3 .taken))
 
--- src/lib.rt:482:1
 returns-4 : tie.Need-returns-4
 returns-4 c = λ l e f. rw (e, f, ne-eqb _ _ (c .before .before .before .before .if1 .left), le-ltb _ _ (c .before .before .if2 .left), ne-eqb _ _ (c .if3 .left))
 

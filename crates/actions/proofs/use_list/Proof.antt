@@ -1,19 +1,13 @@
 -- `actions::use_list` meets its contract: the invariant says that what is left to do, done from here, is what the whole was to be. Assumes nothing.
 use Rattle.actions.proofs.Walks.{rest-step, rest-done, stops, goes-on, ends}
-use Rattle.actions.specs.Outcome.{lentOf}
 use Rattle.ray_tracing.specs.Submission as Submission
 use Rattle.ray_tracing.specs.Submission.{Lent, first, unusableBlas}
 use lib.ListN.{length, drop}
-use native.Mathlib.Omega.{arith}
 use Prim.Native.Nat.{_≤_, _-_}
-use mathlib.Core.Path.{_≡_, refl, sym, _∙_, ap}
+use mathlib.Core.Path.{_≡_, refl, sym}
 use borrow.Author.Needs.{needs}
 use Rattle.actions.proofs.use_list.Statement.{statement}
 use Rattle.actions.proofs.use_list.Tie as tie
-use Rattle.actions.proofs.use_list.Reads as reads
-use Rattle.actions.proofs.use_list.Lts as lts
-use Rattle.actions.proofs.blas_of.Reads as blas-of-reads
-use Rattle.actions.proofs.use_blas.Reads as use-blas-reads
 
 abbrev Inv-loop : tie.InvT-loop
 Inv-loop blases own tlas ids k₀ k = (k ≤ length ids) × ((l : Lent) → l .blases ≡ blases → Submission.tlas l (tlas .0) .«built_index» ≡ own → first (unusableBlas l (tlas .0)) (drop k ids) ≡ first (unusableBlas l (tlas .0)) ids)
@@ -21,50 +15,18 @@ Inv-loop blases own tlas ids k₀ k = (k ≤ length ids) × ((l : Lent) → l .b
 abbrev μ-loop : tie.MeasureT-loop
 μ-loop blases own tlas ids k₀ k = length ids - k
 
--- src/lib.rt:502:5
 loop-holds : tie.Need-loop-holds Inv-loop μ-loop
 loop-holds c = (search needs, λ l e f. refl)
 
--- src/lib.rt:503:25
-mul-t8 : tie.Need-mul-t8 Inv-loop μ-loop
-mul-t8 c = search needs
-
--- src/lib.rt:503:25
-shared-slice-read-t11 : tie.Need-shared-slice-read-t11 Inv-loop μ-loop
-shared-slice-read-t11 c = search needs
-
--- src/lib.rt:504:32
 blas-of-requires : tie.Need-blas-of-requires Inv-loop μ-loop
 blas-of-requires c κs = c .before .before .before .before .before .pre (c .before .before .loop .k) (search needs)
 
--- src/lib.rt:504:13
-use-blas-requires : tie.Need-use-blas-requires Inv-loop μ-loop
-use-blas-requires c κs = search needs
-
--- src/lib.rt:506:13
-enum-told : tie.Need-enum-told Inv-loop μ-loop
-enum-told c = search needs
-
--- src/lib.rt:506:13
 returns : tie.Need-returns Inv-loop μ-loop
 returns c = λ l e f. stops (unusableBlas l (c .before .before .before .before .before .before .before .before .before .args .tlas .0)) (rest-step _ _ (c .before .before .before .before .before .loop-test .taken)) (c .before .before .before .before .before .before .loop .inv .1 l e f) (c .before .before .use-blas .ensures l (rw e (sym (c .before .before .before .blas-of .ensures))) f) (c .enum-told .given .1)
 
-enum-told-2 : tie.Need-enum-told-2 Inv-loop μ-loop
-enum-told-2 c = search needs
-
--- src/lib.rt:508:9
-add-k : tie.Need-add-k Inv-loop μ-loop
-add-k c = search needs
-
--- src/lib.rt:502:5
-loop-less : tie.Need-loop-less Inv-loop μ-loop
-loop-less c = search needs
-
--- src/lib.rt:502:5
 loop-again : tie.Need-loop-again Inv-loop μ-loop
 loop-again c = (search needs, λ l e f. goes-on (unusableBlas l (c .before .before .before .before .before .before .before .before .before .args .tlas .0)) (rest-step _ _ (c .before .before .before .before .before .loop-test .taken)) (c .before .before .before .before .before .before .loop .inv .1 l e f) (c .before .before .use-blas .ensures l (rw e (sym (c .before .before .before .blas-of .ensures))) f) (c .enum-told2 .given .1))
 
--- src/lib.rt:497:1
 returns-2 : tie.Need-returns-2 Inv-loop μ-loop
 returns-2 c = λ l e f. ends (unusableBlas l (c .before .before .before .before .args .tlas .0)) (rest-done _ _ (c .loop-test .left)) (c .before .loop .inv .1 l e f)
 
@@ -75,14 +37,14 @@ use-list-spec =
     Inv-loop
     μ-loop
     loop-holds
-    mul-t8
-    shared-slice-read-t11
+    (λ c. search needs)
+    (λ c. search needs)
     blas-of-requires
-    use-blas-requires
-    enum-told
+    (λ c κs. search needs)
+    (λ c. search needs)
     returns
-    enum-told-2
-    add-k
-    loop-less
+    (λ c. search needs)
+    (λ c. search needs)
+    (λ c. search needs)
     loop-again
     returns-2)

@@ -5,7 +5,6 @@ use Rattle.ray_tracing.proofs.SheetError as T
 use mathlib.Core.Path.{_≡_, refl}
 use mathlib.Core.List.{[], _∷_}
 use mathlib.Core.Logic.{_⊎_, inl, inr}
-use Prim.Native.Nat.{ℕ}
 use native.Mathlib.Omega.{arith}
 use Rattle.ray_tracing.specs.declared.SheetError.{SheetError}
 use Rattle.ray_tracing.specs.declared.SheetError.the-variants as sheet
@@ -13,8 +12,6 @@ use Rattle.ray_tracing.specs.Causes.{bare, sheetNumber}
 use borrow.Author.Needs.{needs}
 use Rattle.submission.proofs.table_error.Statement.{statement}
 use Rattle.submission.proofs.table_error.Tie as tie
-use Rattle.submission.proofs.table_error.Reads as reads
-use Rattle.submission.proofs.table_error.Lts as lts
 
 others : (e : SheetError) → OneOf (0 ∷ 1 ∷ 2 ∷ 4 ∷ []) (tagOf T.the-type e) → (sheetNumber e ≡ 4) ⊎ (sheetNumber e ≡ 5) → bare 5 ≡ bare (sheetNumber e)
 others sheet.TooMany k h = absurd (miss (0 ∷ 1 ∷ 2 ∷ 4 ∷ []) 3 tt k)
@@ -26,17 +23,11 @@ others sheet.Truncated k (inr h) = absurd (omega arith)
 others sheet.TrailingBytes k (inl h) = absurd (omega arith)
 others sheet.TrailingBytes k (inr h) = absurd (omega arith)
 
--- src/lib.rt:602:32
-enum-told : tie.Need-enum-told
-enum-told c = search needs
-
--- src/lib.rt:597:1
 returns : tie.Need-returns
 returns c = rw (c .enum-told .given .1)
 
--- src/lib.rt:597:1
 returns-2 : tie.Need-returns-2
 returns-2 c = others (c .before .args .e) (c .match .keys2) (c .before .pre)
 
 pub table-error-spec : {M : Type 1} → statement M
-table-error-spec = tie.close (tie.spec enum-told returns returns-2)
+table-error-spec = tie.close (tie.spec (λ c. search needs) returns returns-2)
