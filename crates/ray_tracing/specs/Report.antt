@@ -4,9 +4,12 @@ use Prim.Native.Nat.{ℕ, zero, suc, _+_, _*_, _/_, _%_}
 use mathlib.Core.Bool.{Bool, true, false, _||_, cond}
 use mathlib.Core.List.{List, [], _∷_, _++_}
 use lib.ListN.{length, getD, replicate}
+use lib.Seq.{sets}
 use lib.Dec.{ltb, eqb}
 use Rattle.ray_tracing.specs.declared.Sheet.{Sheet}
-use Rattle.ray_tracing.specs.Layout.{size}
+use Rattle.ray_tracing.specs.declared.Reported.{Reported}
+use Rattle.ray_tracing.specs.declared.Reported.the-variants as reported
+use Rattle.ray_tracing.specs.Layout.{layout, size}
 use Rattle.ray_tracing.specs.Reading.{Reading, accepted, rejected, readSheet}
 use Rattle.ray_tracing.specs.Records.{fieldAt}
 use Rattle.ray_tracing.specs.Causes.{Cause, bare}
@@ -153,3 +156,41 @@ readingLines s (accepted x) = builtLines s x
 
 unfoldable pub report : List ℕ → List ℕ
 report s = readingLines s (readSheet s)
+
+-- The most bytes that any sheet prints
+
+-- of a line with n numbers
+abbrev pub longestLine : List ℕ → ℕ → ℕ
+longestLine word n = length word + n * 21 + 1
+
+-- as many entries and packages as a sheet may have
+abbrev pub longestReport : ℕ
+longestReport =
+    longestLine word-build 6
+    + longestLine word-scratch 1
+    + layout 5 .most * longestLine word-blas 2
+    + layout 7 .most * longestLine word-tlas 4
+    + longestLine word-submit 4
+    + longestLine word-next 1
+
+-- The lines written into lent bytes
+
+-- "lent output too short | 39": the number, and how many bytes are written
+pub record Reporting : Type 0 where
+  pub number : ℕ
+  pub written : ℕ
+
+abbrev pub reporting : ℕ → ℕ → Reporting
+reporting n w = record { number = n; written = w }
+
+-- what the code's answer says
+abbrev pub reportedOf : Reported → Reporting
+reportedOf (reported.Written n) = reporting 0 n
+reportedOf reported.TooShort = reporting 39 0
+
+unfoldable pub reportRule : List ℕ → ℕ → Reporting
+reportRule s room = cond (ltb room (length (report s))) (reporting 39 0) (reporting 0 (length (report s)))
+
+-- a refusal writes nothing; past the lines the bytes are kept
+unfoldable pub reportBytes : List ℕ → List ℕ → List ℕ
+reportBytes s out = cond (ltb (length out) (length (report s))) out (sets out 0 (report s))

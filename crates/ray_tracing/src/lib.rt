@@ -284,6 +284,12 @@ pub enum Submitted {
     Refused(ValidateAsActionsError, usize, u64),
 }
 
+// What writing a sheet's lines comes to: so many bytes written, or too few were lent.
+pub enum Reported {
+    Written(usize),
+    TooShort,
+}
+
 pub fn both(a: bool, b: bool) -> bool
     ensures { λ r. ⌜ r ≡ (a && b) ⌝ }
 {
