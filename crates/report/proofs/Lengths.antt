@@ -1,0 +1,147 @@
+-- The most bytes that any sheet prints, and that a sheet's first bytes decide them.
+use Prim.Native.Nat.{ℕ, zero, suc, _+_, _*_, _/_, _≤_, _<_}
+use native.Mathlib.Omega.{arith}
+use mathlib.Core.Bool.{Bool, true, false}
+use mathlib.Core.Path.{_≡_, refl, sym, ap, _∙_}
+use mathlib.Core.List.{List, [], _∷_}
+use lib.Dec.{lit<}
+use lib.ListN.{length, take, getD, length-append}
+use lib.Seq.{take-all, take-take}
+use Rattle.ray_tracing.specs.Layout.{layout, size}
+use Rattle.ray_tracing.specs.Causes.{Cause, bare}
+use Rattle.ray_tracing.specs.Reading.{Reading, accepted, rejected, readSheet, longest}
+use Rattle.ray_tracing.specs.Writing.{table, tablesOf}
+use Rattle.ray_tracing.specs.Plan.{Tables, Answer, recorded, nothing-recorded, not-built, recordsIn, entryOf, packageOf, planOf, build}
+use Rattle.ray_tracing.specs.Submission as submission
+use Rattle.ray_tracing.specs.Report.{
+  line,
+  word-sheet,
+  word-build,
+  word-scratch,
+  word-blas,
+  word-tlas,
+  word-submit,
+  word-next,
+  blasLines,
+  tlasLines,
+  positions,
+  outcomeOf,
+  submitNumbers,
+  outcomeLines,
+  submitLines,
+  buildLine,
+  answerLines,
+  builtLines,
+  readingLines,
+  report,
+  longestLine,
+  longestReport,
+}
+use Rattle.ray_tracing.proofs.Sheets.{lent-tells, accepted-lent}
+use Rattle.ray_tracing.proofs.Longest.{prefix-decides, accepted-longest}
+use Rattle.text.proofs.Laws.{line-most}
+
+pub longest-report-is : longestReport ≡ 6134
+longest-report-is = refl
+
+-- ---- lines
+
+module _ (x : Tables) where
+  blas-lines-most : (i n : ℕ) → length (blasLines x i n) ≤ n * longestLine word-blas 2
+  unfolding blasLines
+  blas-lines-most i zero = omega arith
+  blas-lines-most i (suc n) =
+      simp length-append
+      (omega (
+        arith,
+        line-most word-blas (entryOf x i .blas .0 ∷ getD (planOf x .«blas_offsets») i 0 ∷ []),
+        blas-lines-most (i + 1) n,
+      ))
+
+  tlas-lines-most : (p n : ℕ) → length (tlasLines x p n) ≤ n * longestLine word-tlas 4
+  unfolding tlasLines
+  tlas-lines-most p zero = omega arith
+  tlas-lines-most p (suc n) =
+      simp length-append
+      (omega (
+        arith,
+        line-most word-tlas
+            (packageOf x p .tlas .0
+            ∷ getD (planOf x .«tlas_offsets») p 0
+            ∷ getD (planOf x .«staging_ranges») (2 * p) 0
+            ∷ getD (planOf x .«staging_ranges») (2 * p + 1) 0
+            ∷ []),
+        tlas-lines-most (p + 1) n,
+      ))
+
+numbers-four : (places : List ℕ) (a : submission.Answer) → length (submitNumbers places a) ≡ 4
+numbers-four places submission.accepted = refl
+numbers-four places (submission.refused i c) = refl
+
+outcome-most :
+    (places : List ℕ) (o : submission.Outcome)
+    → length (outcomeLines places o) ≤ longestLine word-submit 4 + longestLine word-next 1
+outcome-most places (submission._leaving_ a l) =
+    simp length-append
+    (omega (
+      arith,
+      line-most word-submit (submitNumbers places a),
+      numbers-four places a,
+      line-most word-next (l .counter ∷ []),
+    ))
+
+submit-most :
+    (counter : ℕ) (x : Tables) (r : Bool) (a : List ℕ)
+    → length (submitLines counter x r a) ≤ longestLine word-submit 4 + longestLine word-next 1
+unfolding submitLines
+submit-most counter x r a = outcome-most (positions r a 0 (length a / size 9)) (outcomeOf counter x r a)
+
+build-most : (e f : ℕ) (c : Cause) → length (buildLine e f c) ≤ longestLine word-build 6
+build-most e f c = line-most word-build (c .number ∷ e ∷ f ∷ c .first ∷ c .second ∷ c .third ∷ [])
+
+answer-most :
+    (counter : ℕ) (x : Tables) (a : List ℕ) (b : Answer)
+    → recordsIn x 5 ≤ layout 5 .most
+    → recordsIn x 7 ≤ layout 7 .most
+    → length (answerLines counter x a b) ≤ longestReport
+answer-most counter x a (not-built e f c) h k = omega (arith, build-most e f c)
+answer-most counter x a (nothing-recorded n) h k =
+    simp length-append (omega (arith, build-most 0 0 (bare 0), submit-most counter x false a))
+answer-most counter x a (recorded n w) h k =
+    simp length-append
+    (omega (
+      arith,
+      build-most 0 0 (bare 0),
+      line-most word-scratch (n ∷ []),
+      blas-lines-most x 0 (recordsIn x 5),
+      tlas-lines-most x 0 (recordsIn x 7),
+      submit-most counter x true a,
+    ))
+
+reading-most : (s : List ℕ) (r : Reading) → readSheet s ≡ r → length (readingLines s r) ≤ longestReport
+unfolding builtLines
+reading-most s (rejected n p) e = omega (arith, line-most word-sheet (n ∷ p ∷ []))
+reading-most s (accepted x) e =
+    let t = tablesOf (x .alignment) (table s) in
+    answer-most (x .counter) t (table s 9) (build t (planOf t))
+    (lent-tells _ _ _ _ _ (accepted-lent s x e 4 (lit< tt)) .few)
+    (lent-tells _ _ _ _ _ (accepted-lent s x e 6 (lit< tt)) .few)
+
+-- no sheet prints more
+pub report-most : (s : List ℕ) → length (report s) ≤ longestReport
+unfolding report
+report-most s = reading-most s (readSheet s) refl
+
+-- ---- the first bytes of a sheet
+
+-- of what is read of a long input, the first longest + 1 bytes print what the whole does
+pub report-prefix : (m : ℕ) (s : List ℕ) → longest < m → report (take m s) ≡ report s
+unfolding report
+report-prefix m s h = rw same (go (readSheet s) refl)
+  where
+    same : readSheet (take m s) ≡ readSheet s
+    same = sym (prefix-decides (take m s)) ∙ ap readSheet (take-take (longest + 1) m s (omega arith)) ∙ prefix-decides s
+
+    go : (r : Reading) → readSheet s ≡ r → readingLines (take m s) r ≡ readingLines s r
+    go (rejected n p) e = refl
+    go (accepted x) e = ap (λ (t : List ℕ). readingLines t (accepted x)) (take-all m s (omega (arith, accepted-longest s x e)))
