@@ -1,0 +1,166 @@
+#!/usr/bin/env python3
+"""Writes crates/report_cases/stdin, sheets each after its length as a u32, and crates/report_cases/stdout, what printed.py prints for them.
+
+Every number that a sheet can draw is drawn: 1 to 5 for the sheet, 6 and 10 to 38 for its build, 6, 21 and 40 to 44 for its actions.
+"""
+import pathlib
+import random
+import struct
+
+from make_build_cases import SECTIONS, base, changed, refusals, table_cases
+from make_read_cases import at_limit, put, record, sheet, worked
+from paper import U64
+from printed import printed
+from reading import LIMITS
+
+
+def of(x, actions, counter=7):
+    """The sheet of a build's tables and of actions."""
+    rows = [[record(k, *r) for r in x[name]] for k, name in enumerate(SECTIONS, 1)]
+    return sheet(rows + [[record(9, *a) for a in actions]], x["alignment"], counter)
+
+
+BUILD, USE, MARK_BLAS, MARK_TLAS = 1, 2, 3, 4
+ALL = [(BUILD, 65535), (USE, 0), (USE, 1), (MARK_BLAS, 1), (MARK_TLAS, 0), (USE, 0)]
+
+
+def zero_scratch(x):
+    for r in x["blases"] + x["tlases"]:
+        r[4 if len(r) == 7 else 2] = 0
+    return x
+
+
+def read_cases():
+    """1 to 5, with places in the header, in each section and past the end."""
+    whole = worked()
+    yield b""
+    for n in (1, 4, 5, 12, 14, 15, 22, 60, len(whole) - 1):
+        yield whole[:n]
+    yield whole + b"\0"
+    yield whole + bytes(60000 - len(whole))
+    yield put(whole, 0, 1, 2)
+    yield put(whole, 1, 4, 0)
+    for section, most in enumerate(LIMITS, 1):
+        yield at_limit(section, most + 1)
+    for at, value in ((23, 4), (26, 2), (29, 2)):
+        yield put(whole, at, 1, value)
+
+
+def build_cases():
+    yield of(base(), ALL)
+    for some in refusals():
+        for x in some if isinstance(some, tuple) else (some,):
+            yield of(x, ALL)
+    for t in table_cases():
+        if all(len(s) % size == 0 for s, size in zip(t, (9, 28, 18, 22, 5, 44, 4, 56))):
+            rows = [[s[i : i + size] for i in range(0, len(s), size)] for s, size in zip(t, (9, 28, 18, 22, 5, 44, 4, 56))]
+            yield sheet(rows + [[record(9, BUILD, 0), record(9, USE, 0)]])
+
+
+def submit_cases():
+    x = base()
+    yield of(x, [])
+    yield of(x, [(BUILD, 0)] * 64)
+    # 6 at an action
+    yield of(x, [(BUILD, 0), (USE, 2)])
+    yield of(x, [(USE, 65535)])
+    yield of(x, [(BUILD, 0), (MARK_BLAS, 3)])
+    yield of(x, [(MARK_TLAS, 2)])
+    # 43, then used once built; used over a Blas that was built again: 44
+    yield of(x, [(USE, 0), (BUILD, 0)])
+    yield of(x, [(BUILD, 0), (USE, 0), (USE, 1)])
+    yield of(x, [(BUILD, 0), (MARK_BLAS, 2), (USE, 1)])
+    yield of(x, [(BUILD, 0), (MARK_BLAS, 1), (USE, 1), (USE, 0)])
+    yield of(x, [(BUILD, 0), (MARK_BLAS, 2), (BUILD, 0), (USE, 1)])
+    yield of(x, [(BUILD, 0), (MARK_BLAS, 2), (MARK_TLAS, 1), (USE, 1)])
+    # a numbered Tlas whose starting list is empty; a Blas that is newer than the Tlas from the start
+    yield of(x, [(USE, 1)])
+    # 21: a listed Blas that is destroyed and is no entry's
+    y = changed(("slots", 3, 1, 3))
+    y["blases"].append([0, 2, 0, 1, 0, 9, 2])
+    yield of(y, [(BUILD, 0), (USE, 0), (USE, 1)])
+    # 42: a listed Blas without number that is no entry's
+    y["blases"][3][6] = 0
+    yield of(y, [(USE, 1), (BUILD, 0), (USE, 0)])
+    # 44: a listed Blas whose number is above the counter
+    y["blases"][3] = [0, 2, 0, 0, 0, 9, 8]
+    yield of(y, [(BUILD, 0), (USE, 1)])
+    # 40, at once and after the counter has stepped round
+    yield of(x, [(BUILD, 0)], counter=0)
+    yield of(x, [(USE, 1), (MARK_BLAS, 0)], counter=0)
+    yield of(x, [(BUILD, 0), (USE, 0), (BUILD, 0)], counter=U64)
+    yield of(x, [(BUILD, 0), (USE, 0), (USE, 1)], counter=U64)
+    # 41: a compacted Blas that is no entry's
+    y["blases"][3] = [0, 2, 3, 0, 0, 9, 2]
+    yield of(y, [(BUILD, 0), (MARK_BLAS, 3)])
+    # nothing recorded: kind 1 is passed over and keeps its position
+    z = zero_scratch(base())
+    yield of(z, ALL)
+    yield of(z, [(BUILD, 0), (BUILD, 0), (USE, 0), (BUILD, 0)])
+    yield of(z, [(BUILD, 0)])
+    yield of(z, [(MARK_BLAS, 0), (BUILD, 9), (MARK_TLAS, 0), (BUILD, 0), (USE, 0), (USE, 9)])
+    yield of(z, [(BUILD, 0), (MARK_BLAS, 0)], counter=0)
+    yield of(dict({name: [] for name in SECTIONS}, alignment=1), [(BUILD, 0), (USE, 0)])
+
+
+def largest():
+    """As many records of each section as there may be, and the longest numbers."""
+    far = 2**61
+    x = dict(
+        alignment=1,
+        buffers=[[U64, 1]] * 256,
+        blases=[[1, 7, 2, 0, 2**57, far + i, 0] for i in range(128)],
+        declared=[[i % 128, 255, 2**32 - 1, 255, 65535, 65535, 2, 1, 2**32 - 1] for i in range(512)],
+        tlases=[[2, 0, 2**58, 2**32 - 1, 0]] * 32,
+        entries=[[64 + i, 1, 4] for i in range(64)],
+        geometries=[[255, 1, 8, 24, 255] + [0] * 10 for _ in range(256)],
+        packages=[[31 - i, 16] for i in range(32)],
+        slots=[[1, 64 + i % 64, 2**24 - 1, 255] + [0x7FC00001] * 12 for i in range(512)],
+    )
+    return of(x, [(BUILD, 0)] + [(USE, i % 32) for i in range(63)], counter=U64 - 1)
+
+
+def random_cases():
+    choose = random.Random(11)
+    for _ in range(300):
+        x = base()
+        for _ in range(choose.randint(0, 2)):
+            name = choose.choice(SECTIONS)
+            r = choose.choice(x[name])
+            j = choose.randrange(len(r))
+            r[j] = choose.choice((0, 1, 2, 3, r[j], max(0, r[j] - 1)))
+        if choose.random() < 0.2:
+            zero_scratch(x)
+        actions = [(choose.randint(1, 4), choose.choice((0, 1, 2, 3))) for _ in range(choose.randrange(9))]
+        yield of(x, actions, choose.choice((0, 1, 5, 9, U64)))
+
+
+def cases():
+    yield worked()
+    yield from read_cases()
+    yield from build_cases()
+    yield from submit_cases()
+    yield largest()
+    yield from random_cases()
+
+
+def main():
+    folder = pathlib.Path(__file__).resolve().parent.parent / "crates/report_cases"
+    folder.mkdir(exist_ok=True)
+    texts, seen = [], {}
+    with open(folder / "stdin", "wb") as out:
+        for case in cases():
+            out.write(struct.pack("<I", len(case)) + case)
+            texts.append(printed(case))
+            for word, number in (words[:2] for words in map(str.split, texts[-1].splitlines())):
+                if word in ("sheet", "build", "submit"):
+                    seen[word, int(number)] = seen.get((word, int(number)), 0) + 1
+    (folder / "stdout").write_text("".join(texts))
+    due = {("sheet", n) for n in range(1, 6)} | {("build", n) for n in (0, 6, *range(10, 39))}
+    due |= {("submit", n) for n in (0, 6, 21, 40, 41, 42, 43, 44)}
+    assert due == set(seen), due ^ set(seen)
+    print(f"{len(texts)} sheets, of up to {max(map(len, texts))} bytes of text; every number that a sheet can draw")
+
+
+if __name__ == "__main__":
+    main()
