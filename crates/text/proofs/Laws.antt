@@ -1,6 +1,6 @@
 -- Laws of writing: one text after another, what is left of a text to write, and the lengths of numbers and lines.
 use Prim.Native.Nat.{ℕ, zero, suc, _+_, _-_, _*_, _/_, _%_, _^_, _≤_, _<_}
-use native.Mathlib.Nat.{add-zero, add-assoc, pow-succ', not-suc-le-zero}
+use native.Mathlib.Nat.{zero-add, add-zero, add-assoc, pow-succ', not-suc-le-zero}
 use native.Mathlib.Numerals.{add-one, sub-one}
 use native.Mathlib.Omega.{arith}
 use mathlib.Core.Bool.{Bool, true, false, cond}
@@ -8,7 +8,7 @@ use mathlib.Core.Path.{_≡_, refl, sym, ap, _∙_}
 use mathlib.Core.List.{List, [], _∷_, _++_, append-assoc, append-nil}
 use lib.Dec.{ltb}
 use lib.ListN.{length, take, drop, getD, set, length-append, length-drop, length-set, drop-of-length-le}
-use lib.Seq.{sets, length-sets, take-all, drop-cons, drop-set-lt, getD-set-same}
+use lib.Seq.{sets, length-sets, take-all, drop-cons, drop-set-lt, getD-set-same, sets-eq, take-at}
 use borrow.Author.Tests.{lt-ltb, le-ltb}
 use Rattle.wire.proofs.Laws.{sets-append}
 use Rattle.ray_tracing.specs.Report.{digits, decimal, spaced, line, longestLine}
@@ -31,6 +31,16 @@ put-then {s} {t} {u} {x} {y} {at} {mid} p q =
       ends = q .ends ∙ rw (p .ends, length-append) (add-assoc at (length x) (length y));
       bytes = q .bytes ∙ rw (p .ends, p .bytes) (sets-append x y s at);
     }
+
+-- a text from the start on, taken back
+module _ {s t x : List ℕ} {end : ℕ} (p : Put s 0 x end t) (h : length x ≤ length s) where
+  pub put-within : end ≤ length t
+  put-within = omega (arith, p .ends, put-same-length p)
+
+  pub put-taken : take end t ≡ x
+  put-taken =
+      rw (p .bytes, p .ends, zero-add (length x), sets-eq x s 0 (omega arith))
+      (take-at x (drop (0 + length x) s) (length x) refl)
 
 -- ---- what is left to write: `rest` from `end` on, of a text from `at` on
 
