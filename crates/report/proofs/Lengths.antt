@@ -96,7 +96,7 @@ submit-most :
 unfolding submitLines
 submit-most counter x r a = outcome-most (positions r a 0 (length a / size 9)) (outcomeOf counter x r a)
 
-build-most : (e f : ℕ) (c : Cause) → length (buildLine e f c) ≤ longestLine word-build 6
+pub build-most : (e f : ℕ) (c : Cause) → length (buildLine e f c) ≤ longestLine word-build 6
 build-most e f c = line-most word-build (c .number ∷ e ∷ f ∷ c .first ∷ c .second ∷ c .third ∷ [])
 
 answer-most :

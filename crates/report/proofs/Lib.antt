@@ -1,3 +1,5 @@
 pub mod Room
 pub mod Lengths
 pub mod Laws
+pub mod Answers
+pub mod Sections

@@ -4,10 +4,10 @@ use native.Mathlib.Nat.{zero-add, add-zero}
 use native.Mathlib.Omega.{arith}
 use mathlib.Core.Bool.{Bool, true, false, cond}
 use mathlib.Core.Option.{Option, none, some}
-use mathlib.Core.Path.{_≡_, refl, ap}
+use mathlib.Core.Path.{_≡_, refl, sym, ap}
 use mathlib.Core.List.{List, [], _∷_}
 use lib.Dec.{eqb}
-use lib.ListN.{length, length-append}
+use lib.ListN.{length, length-append, replicate, length-replicate}
 use borrow.Author.Tests.{le-ltb}
 use Rattle.ray_tracing.specs.declared.Blas.{Blas}
 use Rattle.ray_tracing.specs.declared.Buffer.{Buffer}
@@ -49,6 +49,8 @@ use Rattle.ray_tracing.specs.Plan.{
   planOf,
   tooShort,
   short,
+  blasScratch,
+  tlasScratch,
   judgeTables,
   judgeIds,
   judgeEntries,
@@ -59,9 +61,9 @@ use Rattle.ray_tracing.specs.Plan.{
   build,
 }
 use Rattle.ray_tracing.proofs.Instances.{present-bound, slots-length}
-use Rattle.ray_tracing.proofs.Plan.{offsets-length}
+use Rattle.ray_tracing.proofs.Plan.{offsets-length, staging-length, blases-length, present-zero, packages-length}
 use Rattle.ray_tracing.proofs.Verdicts.{or-passed}
-use Rattle.ray_tracing.proofs.Inside.{Inside, inside, drawnBefore, slotsBefore, drawn-none, drawn-more, slots-none, slots-more}
+use Rattle.ray_tracing.proofs.Inside.{Inside, inside, drawnBefore, slotsBefore, drawn-none, drawn-more, slots-none}
 
 -- ---- the ranges that a geometry's checks ask for
 
@@ -157,39 +159,12 @@ one-most true v = omega arith
 one-most false v = omega arith
 
 module _ (x : Tables) where
-  staging-most : (start p s n : ℕ) → length (stagingFrom x start p s n) ≤ 2 * n
-  unfolding stagingFrom
-  staging-most start p s zero = omega arith
-  staging-most start p s (suc n) =
-      omega (arith, staging-most (start + 64 * presentOf (x .slots) s (slotCount x p)) (p + 1) (s + slotCount x p) n)
-
   compactable-most : (i n : ℕ) → length (compactableFrom x i n) ≤ n
   unfolding compactableFrom
   compactable-most i zero = omega arith
   compactable-most i (suc n) =
       simp length-append
       (omega (arith, one-most (eqb (blasOfEntry x i .flags / 4 % 2) 1) (entryOf x i .blas .0), compactable-most (i + 1) n))
-
-  entry-blases-most : (i n : ℕ) → length (entryBlases x i n) ≤ n
-  unfolding entryBlases
-  entry-blases-most i zero = omega arith
-  entry-blases-most i (suc n) = omega (arith, entry-blases-most (i + 1) n)
-
-  dependencies-most : (s n : ℕ) → length (dependenciesFrom (x .slots) s n) ≤ n
-  unfolding dependenciesFrom
-  dependencies-most s zero = omega arith
-  dependencies-most s (suc n) =
-      simp length-append
-      (omega (arith, one-most (slotPresent (x .slots) s) (slotBlas (x .slots) s), dependencies-most (s + 1) n))
-
-  packages-most : (p s n : ℕ) → length (packageLists x p s n) + slotsBefore x p ≤ 2 * n + slotsBefore x (p + n)
-  unfolding packageLists
-  packages-most p s zero = omega (arith, ap (slotsBefore x) (add-zero p))
-  packages-most p s (suc n) =
-      let e : p + suc n ≡ p + 1 + n = omega arith in
-      rw e
-      (simp length-append
-      (omega (arith, slots-more x p, dependencies-most s (slotCount x p), packages-most (p + 1) (s + slotCount x p) n)))
 
   entry-ranges-most : (i j g n : ℕ) → length (rangesOfEntry x i j g n) ≤ 9 * n
   unfolding rangesOfEntry
@@ -204,12 +179,76 @@ module _ (x : Tables) where
       let e : i + suc n ≡ i + 1 + n = omega arith in
       rw e
       (simp length-append
-      (omega (arith, drawn-more x i, entry-ranges-most i 0 g (geometryCount x i), ranges-most (i + 1) (g + geometryCount x i) n)))
+      (omega (
+        arith,
+        drawn-more x i,
+        entry-ranges-most i 0 g (geometryCount x i),
+        ranges-most (i + 1) (g + geometryCount x i) n,
+      )))
 
--- ---- room for any of them
+-- ---- how many elements of each output are written at most
 
-fits : (values lent : List ℕ) → length values ≤ length lent → short values lent ≡ false
-fits values lent h = le-ltb (length lent) (length values) h
+module _ (x : Tables) (i : Inside x) where
+  most-5 : recordsIn x 5 ≤ 64
+  most-5 = i .most 5 (omega arith) (omega arith)
+
+  most-7 : recordsIn x 7 ≤ 32
+  most-7 = i .most 7 (omega arith) (omega arith)
+
+  most-8 : recordsIn x 8 ≤ 512
+  most-8 = i .most 8 (omega arith) (omega arith)
+
+  most-blas-offsets : length (planOf x .«blas_offsets») ≤ 64
+  unfolding planOf
+  most-blas-offsets = omega (arith, offsets-length (blasScratch x) (x .alignment) 0 0 (recordsIn x 5), most-5)
+
+  most-tlas-offsets : length (planOf x .«tlas_offsets») ≤ 32
+  unfolding planOf
+  most-tlas-offsets = omega (arith, offsets-length (tlasScratch x) (x .alignment) 0 0 (recordsIn x 7), most-7)
+
+  most-staging-ranges : length (planOf x .«staging_ranges») ≤ 64
+  unfolding planOf
+  most-staging-ranges = omega (arith, staging-length x 0 0 0 (recordsIn x 7), most-7)
+
+  most-instances : length (planOf x .instances) ≤ 32768
+  unfolding planOf
+  most-instances =
+      omega (arith, slots-length (x .blases) (x .slots) 0 (recordsIn x 8), present-bound (x .slots) 0 (recordsIn x 8), most-8)
+
+  most-init-ranges : length (planOf x .«init_ranges») ≤ 2304
+  unfolding planOf
+  most-init-ranges =
+      omega (
+        arith,
+        ranges-most x 0 0 (recordsIn x 5),
+        drawn-none x,
+        ap (drawnBefore x) (zero-add (recordsIn x 5)),
+        i .drawn-all,
+        i .most 6 (omega arith) (omega arith),
+      )
+
+  most-compactable : length (planOf x .compactable) ≤ 64
+  unfolding planOf
+  most-compactable = omega (arith, compactable-most x 0 (recordsIn x 5), most-5)
+
+  most-lists : length (planOf x .lists) ≤ 640
+  unfolding planOf
+  most-lists =
+      simp length-append
+      (omega (
+        arith,
+        blases-length x 0 (recordsIn x 5),
+        packages-length x 0 0 (recordsIn x 7) (sym (slots-none x)),
+        present-zero (x .slots) 0,
+        ap (λ (n : ℕ). presentOf (x .slots) 0 (slotsBefore x n)) (zero-add (recordsIn x 7)),
+        ap (presentOf (x .slots) 0) (i .slots-all),
+        present-bound (x .slots) 0 (recordsIn x 8),
+        most-5,
+        most-7,
+        most-8,
+      ))
+
+-- ---- outputs with room for any of them
 
 pub record Roomy (o : Outputs) : Type 0 where
   pub blas-offsets : 64 ≤ length (o .«blas_offsets»)
@@ -220,75 +259,55 @@ pub record Roomy (o : Outputs) : Type 0 where
   pub compactable : 64 ≤ length (o .compactable)
   pub lists : 640 ≤ length (o .lists)
 
+-- the outputs that a sheet is built into
+abbrev pub rooms : Outputs
+rooms =
+    record {
+      «blas_offsets» = replicate 64 0;
+      «tlas_offsets» = replicate 32 0;
+      «staging_ranges» = replicate 64 0;
+      instances = replicate 32768 0;
+      «init_ranges» = replicate 2304 0;
+      compactable = replicate 64 0;
+      lists = replicate 640 0;
+    }
+
+room-of : (n : ℕ) → n ≤ length (replicate {A = ℕ} n 0)
+room-of n = rw length-replicate (omega arith)
+
+pub roomy : Roomy rooms
+roomy =
+    record {
+      blas-offsets = room-of 64;
+      tlas-offsets = room-of 32;
+      staging-ranges = room-of 64;
+      instances = room-of 32768;
+      init-ranges = room-of 2304;
+      compactable = room-of 64;
+      lists = room-of 640;
+    }
+
+fits : (values lent : List ℕ) → length values ≤ length lent → short values lent ≡ false
+fits values lent h = le-ltb (length lent) (length values) h
+
 module _ (x : Tables) (i : Inside x) (o : Outputs) (r : Roomy o) where
-  most-5 : recordsIn x 5 ≤ 64
-  most-5 = i .most 5 (omega arith) (omega arith)
-
-  most-7 : recordsIn x 7 ≤ 32
-  most-7 = i .most 7 (omega arith) (omega arith)
-
   ranges-fit : short (planOf x .«init_ranges») (o .«init_ranges») ≡ false
-  unfolding planOf
-  ranges-fit =
-      fits (planOf x .«init_ranges») (o .«init_ranges»)
-      (omega (
-        arith,
-        ranges-most x 0 0 (recordsIn x 5),
-        drawn-none x,
-        ap (drawnBefore x) (zero-add (recordsIn x 5)),
-        i .drawn-all,
-        i .most 6 (omega arith) (omega arith),
-        r .init-ranges,
-      ))
-
-  offsets-fit : short (planOf x .«blas_offsets») (o .«blas_offsets») ≡ false
-  unfolding planOf
-  offsets-fit = fits (planOf x .«blas_offsets») (o .«blas_offsets») (omega (arith, offsets-length (plan.blasScratch x) (x .alignment) 0 0 (recordsIn x 5), most-5, r .blas-offsets))
-
-  tlas-offsets-fit : short (planOf x .«tlas_offsets») (o .«tlas_offsets») ≡ false
-  unfolding planOf
-  tlas-offsets-fit = fits (planOf x .«tlas_offsets») (o .«tlas_offsets») (omega (arith, offsets-length (plan.tlasScratch x) (x .alignment) 0 0 (recordsIn x 7), most-7, r .tlas-offsets))
-
-  staging-fits : short (planOf x .«staging_ranges») (o .«staging_ranges») ≡ false
-  unfolding planOf
-  staging-fits = fits (planOf x .«staging_ranges») (o .«staging_ranges») (omega (arith, staging-most x 0 0 0 (recordsIn x 7), most-7, r .staging-ranges))
-
-  instances-fit : short (planOf x .instances) (o .instances) ≡ false
-  unfolding planOf
-  instances-fit =
-      fits (planOf x .instances) (o .instances)
-      (omega (
-        arith,
-        slots-length (x .blases) (x .slots) 0 (recordsIn x 8),
-        present-bound (x .slots) 0 (recordsIn x 8),
-        i .most 8 (omega arith) (omega arith),
-        r .instances,
-      ))
-
-  compactable-fits : short (planOf x .compactable) (o .compactable) ≡ false
-  unfolding planOf
-  compactable-fits = fits (planOf x .compactable) (o .compactable) (omega (arith, compactable-most x 0 (recordsIn x 5), most-5, r .compactable))
-
-  lists-fit : short (planOf x .lists) (o .lists) ≡ false
-  unfolding planOf
-  lists-fit =
-      fits (planOf x .lists) (o .lists)
-      (simp length-append
-      (omega (
-        arith,
-        entry-blases-most x 0 (recordsIn x 5),
-        packages-most x 0 0 (recordsIn x 7),
-        slots-none x,
-        ap (slotsBefore x) (zero-add (recordsIn x 7)),
-        i .slots-all,
-        i .most 8 (omega arith) (omega arith),
-        most-5,
-        most-7,
-        r .lists,
-      )))
+  ranges-fit = fits (planOf x .«init_ranges») (o .«init_ranges») (omega (arith, most-init-ranges x i, r .init-ranges))
 
   all-fit : tooShort (planOf x) o ≡ false
-  all-fit = rw (offsets-fit, tlas-offsets-fit, staging-fits, instances-fit, ranges-fit, compactable-fits, lists-fit)
+  all-fit =
+      rw (
+        fits (planOf x .«blas_offsets») (o .«blas_offsets») (omega (arith, most-blas-offsets x i, r .blas-offsets)),
+        fits (planOf x .«tlas_offsets») (o .«tlas_offsets») (omega (arith, most-tlas-offsets x i, r .tlas-offsets)),
+        fits (planOf x .«staging_ranges») (o .«staging_ranges») (omega (arith, most-staging-ranges x i, r .staging-ranges)),
+        fits (planOf x .instances) (o .instances) (omega (arith, most-instances x i, r .instances)),
+        ranges-fit,
+        fits (planOf x .compactable) (o .compactable) (omega (arith, most-compactable x i, r .compactable)),
+        fits (planOf x .lists) (o .lists) (omega (arith, most-lists x i, r .lists)),
+      )
+
+  pub lists-room : length (planOf x .lists) ≤ length (o .lists)
+  lists-room = omega (arith, most-lists x i, r .lists)
 
 short-self : (l : List ℕ) → short l l ≡ false
 short-self l = fits l l (omega arith)

@@ -1,22 +1,14 @@
--- Lines and cells from the parts of a sheet that they look at. Assumes nothing.
-use Prim.Native.Nat.{ℕ, zero, suc, _+_, _*_, _/_}
-use mathlib.Core.Bool.{Bool, cond}
+-- Lines from the parts of a sheet and of a plan that they look at. Assumes nothing.
+use Prim.Native.Nat.{ℕ, zero, suc, _+_, _*_}
+use mathlib.Core.Bool.{true, false}
 use mathlib.Core.List.{List, [], _∷_, _++_}
-use lib.ListN.{length, getD}
+use lib.ListN.{take, getD}
 use Rattle.ray_tracing.specs.Layout.{size}
-use Rattle.ray_tracing.specs.Records.{fieldAt, entryAt, packageAt}
-use Rattle.ray_tracing.specs.Plan.{Tables}
-use Rattle.ray_tracing.specs.Report.{line, word-blas, word-tlas, kept, cellsOf}
-
--- how many there are
-abbrev pub entriesIn : List ℕ → ℕ
-entriesIn entries = length entries / size 5
-
-abbrev pub packagesIn : List ℕ → ℕ
-packagesIn packages = length packages / size 7
-
-abbrev pub actionsIn : List ℕ → ℕ
-actionsIn actions = length actions / size 9
+use Rattle.ray_tracing.specs.Records.{entryAt, packageAt}
+use Rattle.ray_tracing.specs.Causes.{bare}
+use Rattle.ray_tracing.specs.Plan.{Tables, Outputs, Answer, recorded, nothing-recorded, not-built, planOf, build}
+use Rattle.ray_tracing.specs.Report.{line, word-scratch, word-blas, word-tlas, buildLine, answerLines}
+use Rattle.submit_lines.specs.Parts.{entriesIn, packagesIn, submissionLines}
 
 -- `blasLines` with the entries as bytes and the offsets as cells
 abbrev pub blasLine : List ℕ → List ℕ → ℕ → List ℕ
@@ -37,26 +29,23 @@ tlasLinesOf packages offsets ranges p zero = []
 tlasLinesOf packages offsets ranges p (suc n) =
     tlasLine packages offsets ranges p ++ tlasLinesOf packages offsets ranges (p + 1) n
 
--- tables of which only the entries and the packages are looked at, as an action's cells are
-abbrev pub listing : List ℕ → List ℕ → Tables
-listing entries packages =
-    record {
-      alignment = 0;
-      buffers = [];
-      blases = [];
-      declared = [];
-      tlases = [];
-      entries = entries;
-      geometries = [];
-      packages = packages;
-      slots = [];
-    }
+-- up to the packages
+abbrev pub planLines : ℕ → List ℕ → List ℕ → List ℕ → List ℕ → List ℕ → List ℕ
+planLines size entries packages blas-offsets tlas-offsets staging-ranges =
+    buildLine 0 0 (bare 0)
+    ++ (line word-scratch (size ∷ [])
+    ++ (blasLinesOf entries blas-offsets 0 (entriesIn entries)
+    ++ tlasLinesOf packages tlas-offsets staging-ranges 0 (packagesIn packages)))
 
--- the kind of action i
-abbrev pub kindOf : List ℕ → ℕ → ℕ
-kindOf actions i = fieldAt 9 actions (i * size 9) 0
+-- `answerLines` with what the build left of its outputs
+abbrev pub answerLinesOf : ℕ → List ℕ → List ℕ → List ℕ → List ℕ → List ℕ → List ℕ → List ℕ → List ℕ → List ℕ → Answer → List ℕ
+answerLinesOf counter blases tlases entries packages actions blas-offsets tlas-offsets staging-ranges lists (not-built e f c) = buildLine e f c
+answerLinesOf counter blases tlases entries packages actions blas-offsets tlas-offsets staging-ranges lists (nothing-recorded n) =
+    buildLine 0 0 (bare 0) ++ submissionLines counter blases tlases entries packages false actions []
+answerLinesOf counter blases tlases entries packages actions blas-offsets tlas-offsets staging-ranges lists (recorded size w) =
+    planLines size entries packages blas-offsets tlas-offsets staging-ranges
+    ++ submissionLines counter blases tlases entries packages true actions (take (w .lists) lists)
 
--- what action i adds to the cells, and to the positions
-abbrev pub keptCells : Tables → Bool → List ℕ → ℕ → List ℕ
-keptCells x recorded actions i =
-    cond (kept recorded (kindOf actions i)) (cellsOf x (kindOf actions i) (fieldAt 9 actions (i * size 9) 1)) []
+-- the lines of tables that are built, and of actions
+unfoldable pub tableLines : ℕ → Tables → List ℕ → List ℕ
+tableLines counter x actions = answerLines counter x actions (build x (planOf x))

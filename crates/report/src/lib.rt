@@ -1,16 +1,30 @@
 // The sheet program's text: a sheet's bytes in, the lines that are printed for it out.
-use ray_tracing::either;
+use build::build_acceleration_structures;
+use causes::build_figures;
+use causes::sheet_number;
+use ray_tracing::Built;
+use ray_tracing::Reported;
+use ray_tracing::Section;
+use ray_tracing::Sheet;
+use ray_tracing::SheetRead;
+use sheet::read_sheet;
+use submit_lines::put_submission;
+use text::put;
 use text::put_line;
-use wire::u8_at;
 use wire::u16_at;
 ghost use mathlib.Core.Path.{_≡_};
-ghost use mathlib.Core.List.{[], _∷_};
-ghost use Prim.Native.Nat.{_+_, _*_, _≤_, _<_};
-ghost use lib.ListN.{length, getD};
-ghost use lib.Seq.{sets};
-ghost use Rattle.ray_tracing.specs.Report.{kept, cellsOf, actionCells, positions};
+ghost use Prim.Native.Nat.{ℕ, _+_, _*_, _≤_, _<_};
+ghost use lib.ListN.{length, take, drop};
+ghost use Rattle.ray_tracing.specs.declared.Written.{Written};
+ghost use Rattle.ray_tracing.specs.Causes.{cause};
+ghost use Rattle.ray_tracing.specs.Reading.{accepted, readSheet};
+ghost use Rattle.ray_tracing.specs.Plan.{answerOf, recorded};
+ghost use Rattle.ray_tracing.specs.Report as Report;
+ghost use Rattle.ray_tracing.specs.Report.{buildLine, builtLines, longestReport, reportedOf, reportRule, reportBytes};
+ghost use Rattle.ray_tracing.proofs.Inside.{tablesOf};
 ghost use Rattle.text.specs.Put.{Put};
-ghost use Rattle.report.specs.Parts.{entriesIn, packagesIn, actionsIn, blasLine, blasLinesOf, tlasLine, tlasLinesOf, listing, kindOf, keptCells};
+ghost use Rattle.submit_lines.specs.Parts.{entriesIn, packagesIn, Lendable};
+ghost use Rattle.report.specs.Parts.{blasLine, blasLinesOf, tlasLine, tlasLinesOf, planLines, answerLinesOf, tableLines};
 
 // The line of entry i.
 fn put_blas_line(entries: &[u8], offsets: &[u64], i: usize, out: &mut [u8], at: usize) -> usize
@@ -76,101 +90,234 @@ fn put_tlas_lines(
     end
 }
 
-// With nothing recorded kind 1, the recorded build, is passed over.
-fn is_kept(recorded: bool, kind: u8) -> bool
-    ensures { λ r. ⌜ r ≡ kept recorded kind ⌝ }
+fn put_build_line(
+    out: &mut [u8],
+    number: u64,
+    e: usize,
+    g: usize,
+    first: u64,
+    second: u64,
+    third: u64,
+) -> usize
+    requires { ⌜ 132 ≤ length (now out) ⌝ }
+    ensures { λ r. ⌜ Put (now (out .entry)) 0 (buildLine e g (cause number first second third)) r (now (out .exit)) ⌝ }
 {
-    either(recorded, kind != 1)
+    let numbers = [number, e as u64, g as u64, first, second, third];
+    put_line(out, 0, b"build", &numbers)
 }
 
-fn put_cells(cells: &mut [u32], at: usize, kind: u32, operand: u32, blases: u32, tlases: u32)
-    requires { ⌜ at + 4 ≤ length (now cells) ⌝ }
-    ensures { λ _. ⌜ now (cells .exit) ≡ sets (now (cells .entry)) at (kind ∷ operand ∷ blases ∷ tlases ∷ []) ⌝ }
-{
-    cells[at] = kind;
-    cells[at + 1] = operand;
-    cells[at + 2] = blases;
-    cells[at + 3] = tlases;
-}
-
-// What action i adds to the cells: four, or none where it is passed over.
-fn put_action(
-    recorded: bool,
-    actions: &[u8],
-    i: usize,
+// The lines of a recorded build.
+fn put_plan(
+    size: u64,
     entries: &[u8],
     packages: &[u8],
-    cells: &mut [u32],
-    at: usize,
+    blas_offsets: &[u64],
+    tlas_offsets: &[u64],
+    staging_ranges: &[u64],
+    out: &mut [u8],
 ) -> usize
-    requires { ⌜ (i < actionsIn (now actions)) × (at + 4 ≤ length (now cells)) ⌝ }
     requires { ⌜ (entriesIn (now entries) ≤ 64) × (packagesIn (now packages) ≤ 32) ⌝ }
-    ensures { λ r. ⌜ Put (now (cells .entry)) at (keptCells (listing (now (entries .entry)) (now (packages .entry))) recorded (now (actions .entry)) i) r (now (cells .exit)) ⌝ }
+    requires { ⌜ (64 ≤ length (now «blas_offsets»)) × ((32 ≤ length (now «tlas_offsets»)) × (64 ≤ length (now «staging_ranges»))) ⌝ }
+    requires { ⌜ 6017 ≤ length (now out) ⌝ }
+    ensures { λ r. ⌜ Put (now (out .entry)) 0 (planLines size (now (entries .entry)) (now (packages .entry)) (now («blas_offsets» .entry)) (now («tlas_offsets» .entry)) (now («staging_ranges» .entry))) r (now (out .exit)) ⌝ }
+    ensures { λ r. ⌜ r ≤ 6017 ⌝ }
 {
-    let kind = u8_at(actions, i * 3);
-    if !is_kept(recorded, kind) {
-        return at;
+    let built = put_build_line(out, 0, 0, 0, 0, 0, 0);
+    let numbers = [size];
+    let end = put_line(out, built, b"scratch", &numbers);
+    let next = put_blas_lines(entries, blas_offsets, out, end);
+    put_tlas_lines(packages, tlas_offsets, staging_ranges, out, next)
+}
+
+// The lines of what a build came to, with what it left of its outputs.
+fn put_answer(
+    built: Built,
+    counter: u64,
+    blases: &[u8],
+    tlases: &[u8],
+    entries: &[u8],
+    packages: &[u8],
+    actions: &[u8],
+    blas_offsets: &[u64],
+    tlas_offsets: &[u64],
+    staging_ranges: &[u64],
+    lists: &[u16],
+    out: &mut [u8],
+) -> usize
+    requires { ⌜ Lendable (now blases) (now tlases) (now entries) (now packages) (now actions) × (6134 ≤ length (now out)) ⌝ }
+    requires { ⌜ (64 ≤ length (now «blas_offsets»)) × ((32 ≤ length (now «tlas_offsets»)) × (64 ≤ length (now «staging_ranges»))) ⌝ }
+    requires { ⌜ ((n : ℕ) (w : Written) → answerOf built ≡ recorded n w → w .lists ≤ length (now lists)) ⌝ }
+    ensures { λ r. ⌜ Put (now (out .entry)) 0 (answerLinesOf counter (now (blases .entry)) (now (tlases .entry)) (now (entries .entry)) (now (packages .entry)) (now (actions .entry)) (now («blas_offsets» .entry)) (now («tlas_offsets» .entry)) (now («staging_ranges» .entry)) (now (lists .entry)) (answerOf built)) r (now (out .exit)) ⌝ }
+{
+    match built {
+        Built::Refused(error, e, g) => {
+            let f = build_figures(error);
+            put_build_line(out, f.number, e, g, f.first, f.second, f.third)
+        }
+        Built::NothingRecorded(_) => {
+            let end = put_build_line(out, 0, 0, 0, 0, 0, 0);
+            put_submission(
+                counter,
+                blases,
+                tlases,
+                entries,
+                packages,
+                false,
+                actions,
+                &lists[..0],
+                out,
+                end,
+            )
+        }
+        Built::Recorded(size, w) => {
+            let end = put_plan(
+                size,
+                entries,
+                packages,
+                blas_offsets,
+                tlas_offsets,
+                staging_ranges,
+                out,
+            );
+            let n = w.lists;
+            put_submission(
+                counter,
+                blases,
+                tlases,
+                entries,
+                packages,
+                true,
+                actions,
+                &lists[..n],
+                out,
+                end,
+            )
+        }
     }
-    if kind == 1 {
-        put_cells(
-            cells,
-            at,
-            1,
-            0,
-            (entries.len() / 5) as u32,
-            (packages.len() / 4) as u32,
-        );
-        return at + 4;
-    }
-    put_cells(
-        cells,
-        at,
-        kind as u32,
-        u16_at(actions, i * 3 + 1) as u32,
-        0,
-        0,
+}
+
+// Builds the tables, with as much room as any sheet can need.
+fn put_built(
+    alignment: u32,
+    counter: u64,
+    buffers: &[u8],
+    blases: &[u8],
+    declared: &[u8],
+    tlases: &[u8],
+    entries: &[u8],
+    geometries: &[u8],
+    packages: &[u8],
+    slots: &[u8],
+    actions: &[u8],
+    out: &mut [u8],
+) -> usize
+    requires { ⌜ Lendable (now blases) (now tlases) (now entries) (now packages) (now actions) × (6134 ≤ length (now out)) ⌝ }
+    ensures { λ r. ⌜ Put (now (out .entry)) 0 (tableLines counter (tablesOf alignment (now (buffers .entry)) (now (blases .entry)) (now (declared .entry)) (now (tlases .entry)) (now (entries .entry)) (now (geometries .entry)) (now (packages .entry)) (now (slots .entry))) (now (actions .entry))) r (now (out .exit)) ⌝ }
+{
+    let mut blas_offsets = [0u64; 64];
+    let mut tlas_offsets = [0u64; 32];
+    let mut staging_ranges = [0u64; 64];
+    let mut instances = [0u8; 32768];
+    let mut init_ranges = [0u64; 2304];
+    let mut compactable = [0u16; 64];
+    let mut lists = [0u16; 640];
+    let built = build_acceleration_structures(
+        alignment,
+        buffers,
+        blases,
+        declared,
+        tlases,
+        entries,
+        geometries,
+        packages,
+        slots,
+        &mut blas_offsets,
+        &mut tlas_offsets,
+        &mut staging_ranges,
+        &mut instances,
+        &mut init_ranges,
+        &mut compactable,
+        &mut lists,
     );
-    at + 4
+    put_answer(
+        built,
+        counter,
+        blases,
+        tlases,
+        entries,
+        packages,
+        actions,
+        &blas_offsets,
+        &tlas_offsets,
+        &staging_ranges,
+        &lists,
+        out,
+    )
 }
 
-fn put_actions(
-    recorded: bool,
-    actions: &[u8],
-    entries: &[u8],
-    packages: &[u8],
-    cells: &mut [u32],
-) -> usize
-    requires { ⌜ actionsIn (now actions) * 4 ≤ length (now cells) ⌝ }
-    requires { ⌜ (entriesIn (now entries) ≤ 64) × (packagesIn (now packages) ≤ 32) ⌝ }
-    ensures { λ r. ⌜ Put (now (cells .entry)) 0 (actionCells (listing (now (entries .entry)) (now (packages .entry))) recorded (now (actions .entry)) 0 (actionsIn (now (actions .entry)))) r (now (cells .exit)) ⌝ }
+// The records of a section.
+fn part(sheet: &[u8], s: Section, size: usize) -> &[u8]
+    requires { ⌜ (size ≤ 64) × (s .start + s .count * size ≤ length (now sheet)) ⌝ }
+    ensures { λ r. ⌜ now r ≡ take (s .count * size) (drop (s .start) (now (sheet .entry))) ⌝ }
 {
-    let n = actions.len() / 3;
-    let mut end: usize = 0;
-    let mut i: usize = 0;
-    while i < n {
-        end = put_action(recorded, actions, i, entries, packages, cells, end);
-        i += 1;
-    }
-    end
+    let start = s.start;
+    let end = start + s.count * size;
+    &sheet[start..end]
 }
 
-// The position of the k-th action that is kept.
-fn position_of(recorded: bool, actions: &[u8], k: usize) -> usize
-    ensures { λ r. ⌜ r ≡ getD (positions recorded (now (actions .entry)) 0 (actionsIn (now (actions .entry)))) k 0 ⌝ }
+fn put_accepted(sheet: &[u8], x: Sheet, out: &mut [u8]) -> usize
+    requires { ⌜ (readSheet (now sheet) ≡ accepted x) × (6134 ≤ length (now out)) ⌝ }
+    ensures { λ r. ⌜ Put (now (out .entry)) 0 (builtLines (now (sheet .entry)) x) r (now (out .exit)) ⌝ }
 {
-    let n = actions.len() / 3;
-    let mut left = k;
-    let mut i: usize = 0;
-    while i < n {
-        let here = i;
-        i += 1;
-        if !is_kept(recorded, u8_at(actions, here * 3)) {
-            continue;
+    let buffers = part(sheet, x.buffers, 9);
+    let blases = part(sheet, x.blases, 28);
+    let declared = part(sheet, x.declared, 18);
+    let tlases = part(sheet, x.tlases, 22);
+    let entries = part(sheet, x.entries, 5);
+    let geometries = part(sheet, x.geometries, 44);
+    let packages = part(sheet, x.packages, 4);
+    let slots = part(sheet, x.slots, 56);
+    let actions = part(sheet, x.actions, 3);
+    put_built(
+        x.alignment,
+        x.counter,
+        buffers,
+        blases,
+        declared,
+        tlases,
+        entries,
+        geometries,
+        packages,
+        slots,
+        actions,
+        out,
+    )
+}
+
+// The lines of a sheet, into bytes that any of them fits.
+pub fn put_report(sheet: &[u8], out: &mut [u8]) -> usize
+    requires { ⌜ longestReport ≤ length (now out) ⌝ }
+    ensures { λ r. ⌜ Put (now (out .entry)) 0 (Report.report (now (sheet .entry))) r (now (out .exit)) ⌝ }
+{
+    match read_sheet(sheet) {
+        SheetRead::Accepted(x) => put_accepted(sheet, x, out),
+        SheetRead::Refused(e, place) => {
+            let numbers = [sheet_number(e), place as u64];
+            put_line(out, 0, b"sheet", &numbers)
         }
-        if left == 0 {
-            return here;
-        }
-        left -= 1;
     }
-    0
+}
+
+// The lines of a sheet, if they fit into what is lent: no more than 6,134 bytes are ever needed.
+pub fn report(sheet: &[u8], out: &mut [u8]) -> Reported
+    ensures { λ r. ⌜ reportedOf r ≡ reportRule (now (sheet .entry)) (length (now (out .entry))) ⌝ }
+    ensures { λ _. ⌜ now (out .exit) ≡ reportBytes (now (sheet .entry)) (now (out .entry)) ⌝ }
+{
+    let mut text = [0u8; 6134];
+    let n = put_report(sheet, &mut text);
+    if out.len() < n {
+        return Reported::TooShort;
+    }
+    put(out, 0, &text[..n]);
+    Reported::Written(n)
 }

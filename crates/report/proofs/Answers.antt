@@ -1,0 +1,151 @@
+-- The lines of a build's answer, from what the build left of its outputs, are those of the definition.
+use Prim.Native.Nat.{ℕ, zero, suc, _+_, _*_, _/_, _≤_, _<_}
+use native.Mathlib.Nat.{zero-add}
+use native.Mathlib.Omega.{arith}
+use mathlib.Core.Bool.{Bool, true, false, cond}
+use mathlib.Core.Path.{_≡_, refl, ap}
+use mathlib.Core.List.{List, [], append-assoc}
+use lib.ListN.{length, take, drop, getD}
+use lib.Seq.{sets, sets-eq, take-at}
+use Rattle.ray_tracing.specs.declared.Written.{Written}
+use Rattle.ray_tracing.specs.Layout.{size}
+use Rattle.ray_tracing.specs.Plan.{Tables, Outputs, Answer, recorded, nothing-recorded, not-built, recordsIn, planOf, build, leaves, blasScratch, tlasScratch}
+use Rattle.ray_tracing.specs.Report.{actionCells, blasLines, tlasLines, submitLines, answerLines}
+use Rattle.ray_tracing.proofs.Inside.{Inside}
+use Rattle.ray_tracing.proofs.Plan.{offsets-length, staging-length}
+use Rattle.ray_tracing.proofs.PlanLaws.{judged, facts}
+use Rattle.wire.proofs.Laws.{sets-within}
+use Rattle.submit_lines.specs.Parts.{listing, submissionLines}
+use Rattle.report.specs.Parts.{blasLinesOf, tlasLinesOf, answerLinesOf, tableLines}
+use Rattle.report.proofs.Room.{Roomy, build-with-room, lists-room}
+
+-- ---- what is written, read back
+
+module _ (out values : List ℕ) (h : length values ≤ length out) where
+  written-at : (k : ℕ) → k < length values → getD (sets out 0 values) k 0 ≡ getD values k 0
+  written-at k l = rw zero-add at (sets-within values out 0 k l (omega arith))
+
+  written-all : take (length values) (sets out 0 values) ≡ values
+  written-all = rw (sets-eq values out 0 (omega arith)) (take-at values (drop (0 + length values) out) (length values) refl)
+
+-- ---- lines
+
+module _ (x : Tables) (n : ℕ) (o : List ℕ) (h : (k : ℕ) → k < n → getD o k 0 ≡ getD (planOf x .«blas_offsets») k 0) where
+  blas-lines-are : (i m : ℕ) → i + m ≤ n → blasLinesOf (x .entries) o i m ≡ blasLines x i m
+  unfolding blasLinesOf blasLines
+  blas-lines-are i zero l = refl
+  blas-lines-are i (suc m) l = rw (h i (omega arith), blas-lines-are (i + 1) m (omega arith))
+
+module _
+    (x : Tables)
+    (n : ℕ)
+    (o r : List ℕ)
+    (h : (k : ℕ) → k < n → getD o k 0 ≡ getD (planOf x .«tlas_offsets») k 0)
+    (g : (k : ℕ) → k < 2 * n → getD r k 0 ≡ getD (planOf x .«staging_ranges») k 0)
+  where
+    tlas-lines-are : (p m : ℕ) → p + m ≤ n → tlasLinesOf (x .packages) o r p m ≡ tlasLines x p m
+    unfolding tlasLinesOf tlasLines
+    tlas-lines-are p zero l = refl
+    tlas-lines-are p (suc m) l =
+        rw (h p (omega arith), g (2 * p) (omega arith), g (2 * p + 1) (omega arith), tlas-lines-are (p + 1) m (omega arith))
+
+-- the cells of actions go by the entries and the packages alone
+cells-are :
+    (x : Tables) (r : Bool) (a : List ℕ) (i n : ℕ)
+    → actionCells (listing (x .entries) (x .packages)) r a i n ≡ actionCells x r a i n
+unfolding actionCells
+cells-are x r a i zero = refl
+cells-are x r a i (suc n) = rw (cells-are x r a (i + 1) n)
+
+submit-lines-are :
+    (counter : ℕ) (x : Tables) (r : Bool) (a l : List ℕ)
+    → l ≡ cond r (planOf x .lists) []
+    → submissionLines counter (x .blases) (x .tlases) (x .entries) (x .packages) r a l ≡ submitLines counter x r a
+unfolding submissionLines submitLines
+submit-lines-are counter x r a l e = rw (e, cells-are x r a 0 (length a / size 9))
+
+-- ---- the answer
+
+module _ (counter : ℕ) (x : Tables) (o : Outputs) (a : List ℕ) (room : Roomy o) where
+  module _ (n : ℕ) (w : Written) (e : build x o ≡ recorded n w) where
+    i : Inside x
+    i = facts x o n w e
+
+    blas-count : length (planOf x .«blas_offsets») ≡ recordsIn x 5
+    unfolding planOf
+    blas-count = offsets-length (blasScratch x) (x .alignment) 0 0 (recordsIn x 5)
+
+    tlas-count : length (planOf x .«tlas_offsets») ≡ recordsIn x 7
+    unfolding planOf
+    tlas-count = offsets-length (tlasScratch x) (x .alignment) 0 0 (recordsIn x 7)
+
+    range-count : length (planOf x .«staging_ranges») ≡ 2 * recordsIn x 7
+    unfolding planOf
+    range-count = staging-length x 0 0 0 (recordsIn x 7)
+
+    few-5 : recordsIn x 5 ≤ 64
+    few-5 = i .most 5 (omega arith) (omega arith)
+
+    few-7 : recordsIn x 7 ≤ 32
+    few-7 = i .most 7 (omega arith) (omega arith)
+
+    lists-count : w .lists ≡ length (planOf x .lists)
+    lists-count = ap (λ (w : Written). w .lists) (judged x o n w e .counts)
+
+    pub lists-fit : w .lists ≤ length (o .lists)
+    lists-fit = rw lists-count (lists-room x i o room)
+
+    blases-are :
+        blasLinesOf (x .entries) (sets (o .«blas_offsets») 0 (planOf x .«blas_offsets»)) 0 (recordsIn x 5)
+        ≡ blasLines x 0 (recordsIn x 5)
+    blases-are =
+        blas-lines-are x (recordsIn x 5) (sets (o .«blas_offsets») 0 (planOf x .«blas_offsets»))
+        (λ k l. written-at (o .«blas_offsets») (planOf x .«blas_offsets») (omega (arith, blas-count, few-5, room .blas-offsets)) k (omega (arith, blas-count)))
+        0
+        (recordsIn x 5)
+        (omega arith)
+
+    tlases-are :
+        tlasLinesOf (x .packages) (sets (o .«tlas_offsets») 0 (planOf x .«tlas_offsets»)) (sets (o .«staging_ranges») 0 (planOf x .«staging_ranges»)) 0 (recordsIn x 7)
+        ≡ tlasLines x 0 (recordsIn x 7)
+    tlases-are =
+        tlas-lines-are x (recordsIn x 7) (sets (o .«tlas_offsets») 0 (planOf x .«tlas_offsets»)) (sets (o .«staging_ranges») 0 (planOf x .«staging_ranges»))
+        (λ k l. written-at (o .«tlas_offsets») (planOf x .«tlas_offsets») (omega (arith, tlas-count, few-7, room .tlas-offsets)) k (omega (arith, tlas-count)))
+        (λ k l. written-at (o .«staging_ranges») (planOf x .«staging_ranges») (omega (arith, range-count, few-7, room .staging-ranges)) k (omega (arith, range-count)))
+        0
+        (recordsIn x 7)
+        (omega arith)
+
+    lists-are : take (w .lists) (sets (o .lists) 0 (planOf x .lists)) ≡ planOf x .lists
+    lists-are = rw lists-count (written-all (o .lists) (planOf x .lists) (lists-room x i o room))
+
+  -- with what it left of the outputs
+  abbrev linesAfter : Answer → List ℕ
+  linesAfter v =
+      answerLinesOf counter (x .blases) (x .tlases) (x .entries) (x .packages) a
+      (leaves v (planOf x) o .«blas_offsets»)
+      (leaves v (planOf x) o .«tlas_offsets»)
+      (leaves v (planOf x) o .«staging_ranges»)
+      (leaves v (planOf x) o .lists)
+      v
+
+  lines-are : (v : Answer) → build x o ≡ v → linesAfter v ≡ answerLines counter x a v
+  lines-are (not-built e f c) h = refl
+  lines-are (nothing-recorded n) h = rw (submit-lines-are counter x false a [] refl)
+  lines-are (recorded n w) h =
+      rw (
+        blases-are n w h,
+        tlases-are n w h,
+        submit-lines-are counter x true a (take (w .lists) (sets (o .lists) 0 (planOf x .lists))) (lists-are n w h),
+      )
+      (simp append-assoc)
+
+  -- the code's answer v, and the outputs q that it left
+  pub built-lines :
+      {v : Answer} {q : Outputs}
+      → v ≡ build x o
+      → q ≡ leaves (build x o) (planOf x) o
+      → answerLinesOf counter (x .blases) (x .tlases) (x .entries) (x .packages) a (q .«blas_offsets») (q .«tlas_offsets») (q .«staging_ranges») (q .lists) v
+      ≡ tableLines counter x a
+  unfolding tableLines
+  built-lines e f = rw (e, f, ← build-with-room x o room) (lines-are (build x o) refl)
