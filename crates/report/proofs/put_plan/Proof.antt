@@ -18,27 +18,30 @@ put-line-requires c κs =
 
 put-blas-lines-requires : tie.Need-put-blas-lines-requires
 put-blas-lines-requires c κs =
-    let a = c .before .before .before .before .before .before .before .before .before .before .before .before .before .before .before .before .before .args in
+    let start = c .before .before .before .before .before .before .before .before .before .before .before .before .before .before .before .before .before in
+    let a = start .args in
     let build = c .before .before .before .before .before .before .before .before .before .put-build-line .ensures in
     let scratch = c .before .before .before .put-line .ensures in
-    (search needs, omega (arith, c .before .before .before .before .before .before .before .before .before .before .before .before .before .before .before .before .before .pre, put-same-length build, build .ends, build-most 0 0 (bare 0), put-same-length scratch, scratch .ends, line-most word-scratch (a .size ∷ [])))
+    (search needs, omega (arith, start .pre, put-same-length build, build .ends, build-most 0 0 (bare 0), put-same-length scratch, scratch .ends, line-most word-scratch (a .size ∷ [])))
 
 put-tlas-lines-requires : tie.Need-put-tlas-lines-requires
 put-tlas-lines-requires c κs =
-    let a = c .before .before .before .before .before .before .before .before .before .before .before .before .before .before .before .before .before .before .before .before .before .args in
+    let start = c .before .before .before .before .before .before .before .before .before .before .before .before .before .before .before .before .before .before .before .before .before in
+    let a = start .args in
     let build = c .before .before .before .before .before .before .before .before .before .before .before .before .before .put-build-line .ensures in
     let scratch = c .before .before .before .before .before .before .before .put-line .ensures in
     let blases = c .before .before .before .put-blas-lines .ensures in
-    (omega (arith, c .before .before .before .before .before .before .before .before .before .before .before .before .before .before .before .before .before .before .before .before .before .pre), (omega (arith, c .before .before .before .before .before .before .before .before .before .before .before .before .before .before .before .before .before .before .before .before .before .pre), omega (arith, c .before .before .before .before .before .before .before .before .before .before .before .before .before .before .before .before .before .before .before .before .before .pre, put-same-length build, build .ends, build-most 0 0 (bare 0), put-same-length scratch, scratch .ends, line-most word-scratch (a .size ∷ []), put-same-length blases, blases .ends, blas-lines-most (a .entries .now) (a .blas-offsets .now) 0 (entriesIn (a .entries .now)))))
+    (omega (arith, start .pre), (omega (arith, start .pre), omega (arith, start .pre, put-same-length build, build .ends, build-most 0 0 (bare 0), put-same-length scratch, scratch .ends, line-most word-scratch (a .size ∷ []), put-same-length blases, blases .ends, blas-lines-most (a .entries .now) (a .blas-offsets .now) 0 (entriesIn (a .entries .now)))))
 
 returns : tie.Need-returns
 returns c =
-    let a = c .before .before .before .before .before .before .before .before .before .before .before .before .before .before .before .before .before .before .before .before .before .before .before .before .args in
+    let start = c .before .before .before .before .before .before .before .before .before .before .before .before .before .before .before .before .before .before .before .before .before .before .before .before in
+    let a = start .args in
     let build = c .before .before .before .before .before .before .before .before .before .before .before .before .before .before .before .before .put-build-line .ensures in
     let scratch = c .before .before .before .before .before .before .before .before .before .before .put-line .ensures in
     let blases = c .before .before .before .before .before .before .put-blas-lines .ensures in
     let tlases = c .before .before .put-tlas-lines .ensures in
-    (put-then build (put-then scratch (put-then blases tlases)), omega (arith, c .before .before .before .before .before .before .before .before .before .before .before .before .before .before .before .before .before .before .before .before .before .before .before .before .pre, put-same-length build, build .ends, build-most 0 0 (bare 0), put-same-length scratch, scratch .ends, line-most word-scratch (a .size ∷ []), put-same-length blases, blases .ends, blas-lines-most (a .entries .now) (a .blas-offsets .now) 0 (entriesIn (a .entries .now)), tlases .ends, tlas-lines-most (a .packages .now) (a .tlas-offsets .now) (a .staging-ranges .now) 0 (packagesIn (a .packages .now))))
+    (put-then build (put-then scratch (put-then blases tlases)), omega (arith, start .pre, put-same-length build, build .ends, build-most 0 0 (bare 0), put-same-length scratch, scratch .ends, line-most word-scratch (a .size ∷ []), put-same-length blases, blases .ends, blas-lines-most (a .entries .now) (a .blas-offsets .now) 0 (entriesIn (a .entries .now)), tlases .ends, tlas-lines-most (a .packages .now) (a .tlas-offsets .now) (a .staging-ranges .now) 0 (packagesIn (a .packages .now))))
 
 pub put-plan-spec : {M : Type 1} → statement M
 put-plan-spec =
