@@ -7,6 +7,7 @@ use mathlib.Core.List.{List, [], _∷_}
 use lib.Dec.{lit<}
 use lib.ListN.{length, take, getD, length-append}
 use lib.Seq.{take-all, take-take}
+use borrow.Author.Tests.{le-ltb}
 use Rattle.ray_tracing.specs.Layout.{layout, size}
 use Rattle.ray_tracing.specs.Causes.{Cause, bare}
 use Rattle.ray_tracing.specs.Reading.{Reading, accepted, rejected, readSheet, longest}
@@ -36,6 +37,8 @@ use Rattle.ray_tracing.specs.Report.{
   report,
   longestLine,
   longestReport,
+  reporting,
+  reportRule,
 }
 use Rattle.ray_tracing.proofs.Sheets.{lent-tells, accepted-lent}
 use Rattle.ray_tracing.proofs.Longest.{prefix-decides, accepted-longest}
@@ -131,6 +134,11 @@ reading-most s (accepted x) e =
 pub report-most : (s : List ℕ) → length (report s) ≤ longestReport
 unfolding report
 report-most s = reading-most s (readSheet s) refl
+
+-- with that much room none is refused
+pub never-short : (s : List ℕ) (room : ℕ) → longestReport ≤ room → reportRule s room ≡ reporting 0 (length (report s))
+unfolding reportRule
+never-short s room h = rw (le-ltb room (length (report s)) (omega (arith, report-most s)))
 
 -- ---- the first bytes of a sheet
 

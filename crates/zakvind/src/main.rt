@@ -10,7 +10,7 @@ fn print(text: &[u8], n: usize) {
     }
 }
 
-// No sheet prints more than 6,134 bytes (`report-most`).
+// No sheet prints more than 6,134 bytes, so none is refused here (`report-most`, `never-short`).
 fn answer(sheet: &[u8]) {
     let mut text = [0u8; 6134];
     if let Reported::Written(n) = report::report(sheet, &mut text) {
