@@ -16,3 +16,4 @@ pub mod Writing
 pub mod DemandExamples
 pub mod Examples
 pub mod Report
+pub mod Explain

@@ -1,6 +1,9 @@
 -- The lines of the sheet program: "Fields: `build` number, E, three figures; `scratch` size; per entry `blas` id, offset; per package
 -- `tlas` id, offset, range start and end; `submit` number, action, two figures; `next` counter." Assumes nothing.
 use Prim.Native.Nat.{ℕ, zero, suc, _+_, _*_, _/_, _%_}
+use Prim.Native.Char.{code}
+use Prim.Native.String as string
+use Prim.Native.String.{String}
 use mathlib.Core.Bool.{Bool, true, false, _||_, cond}
 use mathlib.Core.List.{List, [], _∷_, _++_}
 use lib.ListN.{length, getD, replicate}
@@ -36,26 +39,30 @@ unfoldable pub line : List ℕ → List ℕ → List ℕ
 line word ns = word ++ (spaced ns ++ (10 ∷ []))
 
 -- the words in ASCII
+abbrev pub ascii : String → List ℕ
+ascii string.[] = []
+ascii (string._∷_ c s) = code c ∷ ascii s
+
 abbrev pub word-sheet : List ℕ
-word-sheet = 115 ∷ 104 ∷ 101 ∷ 101 ∷ 116 ∷ []
+word-sheet = ascii "sheet"
 
 abbrev pub word-build : List ℕ
-word-build = 98 ∷ 117 ∷ 105 ∷ 108 ∷ 100 ∷ []
+word-build = ascii "build"
 
 abbrev pub word-scratch : List ℕ
-word-scratch = 115 ∷ 99 ∷ 114 ∷ 97 ∷ 116 ∷ 99 ∷ 104 ∷ []
+word-scratch = ascii "scratch"
 
 abbrev pub word-blas : List ℕ
-word-blas = 98 ∷ 108 ∷ 97 ∷ 115 ∷ []
+word-blas = ascii "blas"
 
 abbrev pub word-tlas : List ℕ
-word-tlas = 116 ∷ 108 ∷ 97 ∷ 115 ∷ []
+word-tlas = ascii "tlas"
 
 abbrev pub word-submit : List ℕ
-word-submit = 115 ∷ 117 ∷ 98 ∷ 109 ∷ 105 ∷ 116 ∷ []
+word-submit = ascii "submit"
 
 abbrev pub word-next : List ℕ
-word-next = 110 ∷ 101 ∷ 120 ∷ 116 ∷ []
+word-next = ascii "next"
 
 -- "per entry `blas` id, offset": of n entries from i on
 unfoldable pub blasLines : Tables → ℕ → ℕ → List ℕ

@@ -1,0 +1,195 @@
+-- A report's refusal in words: the table of "Causes and what they cost", for a reader who has no paper at hand. Assumes nothing.
+use Prim.Native.Nat.{ℕ, _*_, _/_}
+use Prim.Native.String.{String}
+use mathlib.Core.Bool.{Bool, true, false, _&&_, _||_, cond}
+use mathlib.Core.List.{List, [], _∷_, _++_}
+use lib.ListN.{length, getD}
+use lib.Seq.{sets}
+use lib.Dec.{ltb, eqb}
+use Rattle.ray_tracing.specs.declared.Sheet.{Sheet}
+use Rattle.ray_tracing.specs.Layout.{size}
+use Rattle.ray_tracing.specs.Reading.{Reading, accepted, rejected, readSheet}
+use Rattle.ray_tracing.specs.Records.{fieldAt}
+use Rattle.ray_tracing.specs.Causes.{Cause}
+use Rattle.ray_tracing.specs.Writing.{table, tablesOf}
+use Rattle.ray_tracing.specs.Plan.{Tables, Answer, recorded, nothing-recorded, not-built, planOf, build}
+use Rattle.ray_tracing.specs.Submission as submission
+use Rattle.ray_tracing.specs.Report.{ascii, decimal, positions, outcomeOf, report, Reporting, reporting}
+
+infix 90 _is_
+-- What is refused
+
+-- nothing; a sheet, by its number, at a byte place; a build, at E; or an action of the sheet, by its position and its kind. A report tells
+-- at most one: "A refused sheet prints only `sheet`", "a refused build only its line"
+pub data Refusal : Type 0 where
+  nothing : Refusal
+  of-sheet : ℕ → ℕ → Refusal
+  of-build : ℕ → ℕ → Cause → Refusal
+  of-action : ℕ → ℕ → Cause → Refusal
+
+-- the action's position is the sheet's, as in the line `submit`
+abbrev pub actionRefusal : List ℕ → ℕ → Cause → Refusal
+actionRefusal a position c = of-action position (fieldAt 9 a (position * size 9) 0) c
+
+abbrev pub outcomeRefusal : List ℕ → List ℕ → submission.Outcome → Refusal
+outcomeRefusal a places (submission._leaving_ submission.accepted l) = nothing
+outcomeRefusal a places (submission._leaving_ (submission.refused i c) l) = actionRefusal a (getD places i 0) c
+
+unfoldable pub submitRefusal : ℕ → Tables → Bool → List ℕ → Refusal
+submitRefusal counter x wasRecorded a =
+    outcomeRefusal a (positions wasRecorded a 0 (length a / size 9)) (outcomeOf counter x wasRecorded a)
+
+abbrev pub answerRefusal : ℕ → Tables → List ℕ → Answer → Refusal
+answerRefusal counter x a (not-built e f c) = of-build e f c
+answerRefusal counter x a (nothing-recorded n) = submitRefusal counter x false a
+answerRefusal counter x a (recorded size w) = submitRefusal counter x true a
+
+unfoldable pub builtRefusal : List ℕ → Sheet → Refusal
+builtRefusal s x =
+    answerRefusal (x .counter) (tablesOf (x .alignment) (table s)) (table s 9)
+    (build (tablesOf (x .alignment) (table s)) (planOf (tablesOf (x .alignment) (table s))))
+
+abbrev pub readingRefusal : List ℕ → Reading → Refusal
+readingRefusal s (rejected n p) = of-sheet n p
+readingRefusal s (accepted x) = builtRefusal s x
+
+unfoldable pub refusalIn : List ℕ → Refusal
+refusalIn s = readingRefusal s (readSheet s)
+
+-- Its words
+
+-- the column "Cause": the words of number n stand at place n
+abbrev pub causes : List String
+causes =
+    "no such cause"
+    ∷ "version not 1"
+    ∷ "sheet ends early"
+    ∷ "bytes after the sheet"
+    ∷ "count above its limit"
+    ∷ "value outside its field"
+    ∷ "id outside its table"
+    ∷ "no such cause"
+    ∷ "no such cause"
+    ∷ "no such cause"
+    ∷ "kind mismatch"
+    ∷ "more geometries than declared"
+    ∷ "flags differ"
+    ∷ "vertex count above declared"
+    ∷ "vertex format differs"
+    ∷ "stride below least"
+    ∷ "stride not a multiple"
+    ∷ "index count on one side only"
+    ∷ "index count above declared"
+    ∷ "index format differs"
+    ∷ "index count declared, no index buffer"
+    ∷ "destroyed"
+    ∷ "no BLAS_INPUT"
+    ∷ "region overruns buffer"
+    ∷ "first index, index count or transform offset absent"
+    ∷ "index format none"
+    ∷ "product or offset above 2^32 - 1"
+    ∷ "index count not in threes"
+    ∷ "transform unflagged"
+    ∷ "transform offset not in 16s"
+    ∷ "transform flagged, absent"
+    ∷ "box count above declared"
+    ∷ "box offset not in eights"
+    ∷ "box stride below 24 or not in eights"
+    ∷ "custom data from 2^24 on"
+    ∷ "Tlas returns vertices, Blas does not"
+    ∷ "too many present slots"
+    ∷ "scratch 2^64 - 1"
+    ∷ "compacted Blas"
+    ∷ "lent output too short"
+    ∷ "counter 0"
+    ∷ "Blas to build is compacted"
+    ∷ "Blas without number"
+    ∷ "Tlas without number"
+    ∷ "Blas newer than Tlas"
+    ∷ []
+
+abbrev pub causeWords : ℕ → String
+causeWords n = getD causes n "no such cause"
+
+-- what a number is
+pub record Item : Type 0 where
+  pub word : String
+  pub value : ℕ
+
+abbrev pub _is_ : String → ℕ → Item
+w is n = record { word = w; value = n }
+
+-- "sort (1 buffer, 2 Blas, 3 Tlas)"
+abbrev pub sortWord : ℕ → String
+sortWord sort = cond (eqb sort 1) "buffer" (cond (eqb sort 2) "Blas" "Tlas")
+
+-- a number of the table's that stands for one of those named
+abbrev pub oneOf : ℕ → List ℕ → Bool
+oneOf n [] = false
+oneOf n (m ∷ ms) = eqb n m || oneOf n ms
+
+-- "E is entry and its geometry, or package and its slot, from 0 (second 0 where there is none)"; of 4 and 5 section and record; none of
+-- 37 and 39
+abbrev pub placeItems : Cause → ℕ → ℕ → List Item
+placeItems c e f =
+    cond (oneOf (c .number) (37 ∷ 39 ∷ [])) []
+    (cond (oneOf (c .number) (4 ∷ 5 ∷ [])) ("section" is e ∷ "record" is f ∷ [])
+    (cond (eqb (c .number) 6) ("entry or package" is e ∷ "geometry or slot" is f ∷ [])
+    (cond (oneOf (c .number) (34 ∷ 35 ∷ [])) ("package" is e ∷ "slot" is f ∷ [])
+    (cond (eqb (c .number) 36 || (eqb (c .number) 21 && eqb (c .first) 3)) ("package" is e ∷ [])
+    (cond (eqb (c .number) 38 || (eqb (c .number) 21 && eqb (c .first) 2)) ("entry" is e ∷ [])
+    ("entry" is e ∷ "geometry" is f ∷ []))))))
+
+-- the column "Returned" of a build, E apart
+abbrev pub figureItems : Cause → List Item
+figureItems c =
+    cond (oneOf (c .number) (12 ∷ 13 ∷ 14 ∷ 18 ∷ 19 ∷ 31 ∷ [])) ("declared" is c .first ∷ "given" is c .second ∷ [])
+    (cond (oneOf (c .number) (15 ∷ 16 ∷ [])) ("needed" is c .first ∷ "given" is c .second ∷ [])
+    (cond (oneOf (c .number) (21 ∷ 22 ∷ [])) (sortWord (c .first) is c .second ∷ [])
+    (cond (eqb (c .number) 23) ("offset" is c .first ∷ "region" is c .second ∷ "size" is c .third ∷ [])
+    (cond (eqb (c .number) 26) ("offset" is c .first ∷ "count" is c .second ∷ "stride" is c .third ∷ [])
+    (cond (eqb (c .number) 27) ("count" is c .first ∷ [])
+    (cond (eqb (c .number) 33) ("stride" is c .first ∷ [])
+    (cond (eqb (c .number) 36) ("count" is c .first ∷ "most" is c .second ∷ []) [])))))))
+
+-- "1 the recorded build, 2 use of a Tlas, 3 mark of one Blas, 4 mark of one Tlas"
+abbrev pub kindWords : ℕ → String
+kindWords kind =
+    cond (eqb kind 1) "recorded build at action"
+    (cond (eqb kind 2) "use of a Tlas at action" (cond (eqb kind 3) "mark of a Blas at action" "mark of a Tlas at action"))
+
+-- the column "Returned" of a submission, the action apart: "42 gives Blas, Tlas in a Build and Tlas, Blas in a use"
+abbrev pub actionItems : ℕ → Cause → List Item
+actionItems kind c =
+    cond (oneOf (c .number) (21 ∷ 41 ∷ [])) ("Blas" is c .first ∷ [])
+    (cond (eqb (c .number) 43) ("Tlas" is c .first ∷ [])
+    (cond (eqb (c .number) 42 && eqb kind 2) ("Tlas" is c .first ∷ "Blas" is c .second ∷ [])
+    (cond (oneOf (c .number) (42 ∷ 44 ∷ [])) ("Blas" is c .first ∷ "Tlas" is c .second ∷ []) [])))
+
+-- each item after a comma
+unfoldable pub itemBytes : List Item → List ℕ
+itemBytes [] = []
+itemBytes (i ∷ l) = (ascii ", " ++ (ascii (i .word) ++ (32 ∷ decimal (i .value)))) ++ itemBytes l
+
+-- a line: the number, the cause, the items
+abbrev pub refusedLine : ℕ → List Item → List ℕ
+refusedLine n l = (ascii "refused " ++ (decimal n ++ (ascii ": " ++ ascii (causeWords n)))) ++ (itemBytes l ++ (10 ∷ []))
+
+unfoldable pub explanation : Refusal → List ℕ
+explanation nothing = ascii "nothing is refused\n"
+explanation (of-sheet n place) = refusedLine n ("byte" is place ∷ [])
+explanation (of-build e f c) = refusedLine (c .number) (placeItems c e f ++ figureItems c)
+explanation (of-action i kind c) = refusedLine (c .number) (kindWords kind is i ∷ actionItems kind c)
+
+-- The text
+
+-- the report's lines, and the explanation below them
+unfoldable pub explained : List ℕ → List ℕ
+explained s = report s ++ explanation (refusalIn s)
+
+-- written as a report is: 39 where it doesn't fit, and then nothing is written; past it the bytes are kept
+unfoldable pub explainRule : List ℕ → ℕ → Reporting
+explainRule s room = cond (ltb room (length (explained s))) (reporting 39 0) (reporting 0 (length (explained s)))
+
+unfoldable pub explainBytes : List ℕ → List ℕ → List ℕ
+explainBytes s out = cond (ltb (length out) (length (explained s))) out (sets out 0 (explained s))
