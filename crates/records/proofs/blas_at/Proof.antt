@@ -1,7 +1,7 @@
--- `ray_tracing::blas_at` meets its contract: field by field, what the call that read it ensures.
+-- `records::blas_at` meets its contract: field by field, what the call that read it ensures.
 use borrow.Author.Needs.{needs}
-use Rattle.ray_tracing.proofs.blas_at.Statement.{statement}
-use Rattle.ray_tracing.proofs.blas_at.Tie as tie
+use Rattle.records.proofs.blas_at.Statement.{statement}
+use Rattle.records.proofs.blas_at.Tie as tie
 
 returns : tie.Need-returns
 returns c = λ i. record {

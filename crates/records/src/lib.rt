@@ -1,0 +1,153 @@
+// A record of a lent table by value, and a mention of one: what the definitions in ray_tracing/specs/Records.antt and Mentions.antt say.
+use ray_tracing::Blas;
+use ray_tracing::BlasBuildEntry;
+use ray_tracing::BlasGeometry;
+use ray_tracing::BlasGeometrySizeDescriptor;
+use ray_tracing::BlasId;
+use ray_tracing::Buffer;
+use ray_tracing::BufferId;
+use ray_tracing::Mentioned;
+use ray_tracing::Tlas;
+use ray_tracing::TlasId;
+use ray_tracing::TlasPackage;
+use wire::u8_at;
+use wire::u16_at;
+use wire::u32_at;
+use wire::u64_at;
+ghost use mathlib.Core.Path.{_≡_};
+ghost use Prim.Native.Nat.{_+_, _≤_};
+ghost use lib.ListN.{length};
+ghost use Rattle.ray_tracing.specs.Layout.{size};
+ghost use Rattle.ray_tracing.specs.Records.{bufferAt, blasAt, declaredAt, tlasAt, entryAt, geometryAt, packageAt};
+ghost use Rattle.ray_tracing.specs.Mentions.{mentionOf, bufferMention, blasMention, tlasMention};
+
+// A mention of an id, which is a number until it is judged here: one function for each sort.
+pub fn buffer_mention(table: &[u8], id: usize) -> Mentioned
+    ensures { λ r. ⌜ mentionOf r ≡ bufferMention (now (table .entry)) id ⌝ }
+{
+    if table.len() / 9 <= id {
+        return Mentioned::InvalidResource;
+    }
+    Mentioned::Inside
+}
+
+pub fn blas_mention(table: &[u8], id: usize) -> Mentioned
+    ensures { λ r. ⌜ mentionOf r ≡ blasMention (now (table .entry)) id ⌝ }
+{
+    if table.len() / 28 <= id {
+        return Mentioned::InvalidResource;
+    }
+    Mentioned::Inside
+}
+
+pub fn tlas_mention(table: &[u8], id: usize) -> Mentioned
+    ensures { λ r. ⌜ mentionOf r ≡ tlasMention (now (table .entry)) id ⌝ }
+{
+    if table.len() / 22 <= id {
+        return Mentioned::InvalidResource;
+    }
+    Mentioned::Inside
+}
+
+// The record at a byte place of a table: its size is the caller's, its fields' offsets the layout's.
+pub fn buffer_at(table: &[u8], at: usize) -> Buffer
+    requires { ⌜ at + size 1 ≤ length (now table) ⌝ }
+    ensures { λ r. ⌜ r ≡ bufferAt (now (table .entry)) at ⌝ }
+{
+    let size = u64_at(table, at);
+    let marks = u8_at(table, at + 8);
+    Buffer {
+        size,
+        blas_input: marks % 2 == 1,
+        destroyed: marks / 2 % 2 == 1,
+    }
+}
+
+pub fn blas_at(table: &[u8], at: usize) -> Blas
+    requires { ⌜ at + size 2 ≤ length (now table) ⌝ }
+    ensures { λ r. ⌜ r ≡ blasAt (now (table .entry)) at ⌝ }
+{
+    Blas {
+        kind: u8_at(table, at),
+        flags: u8_at(table, at + 1),
+        compacted_state: u8_at(table, at + 2),
+        destroyed: u8_at(table, at + 3),
+        build_scratch_size: u64_at(table, at + 4),
+        handle: u64_at(table, at + 12),
+        built_index: u64_at(table, at + 20),
+    }
+}
+
+pub fn declared_at(table: &[u8], at: usize) -> BlasGeometrySizeDescriptor
+    requires { ⌜ at + size 3 ≤ length (now table) ⌝ }
+    ensures { λ r. ⌜ r ≡ declaredAt (now (table .entry)) at ⌝ }
+{
+    BlasGeometrySizeDescriptor {
+        blas: BlasId(u16_at(table, at)),
+        flags: u8_at(table, at + 2),
+        count: u32_at(table, at + 3),
+        vertex_format: u8_at(table, at + 7),
+        min_vertex_stride: u16_at(table, at + 8),
+        stride_alignment: u16_at(table, at + 10),
+        index_format: u8_at(table, at + 12),
+        index_count_present: u8_at(table, at + 13),
+        index_count: u32_at(table, at + 14),
+    }
+}
+
+pub fn tlas_at(table: &[u8], at: usize) -> Tlas
+    requires { ⌜ at + size 4 ≤ length (now table) ⌝ }
+    ensures { λ r. ⌜ r ≡ tlasAt (now (table .entry)) at ⌝ }
+{
+    Tlas {
+        flags: u8_at(table, at),
+        destroyed: u8_at(table, at + 1),
+        build_scratch_size: u64_at(table, at + 2),
+        max_instance_count: u32_at(table, at + 10),
+        built_index: u64_at(table, at + 14),
+    }
+}
+
+pub fn entry_at(table: &[u8], at: usize) -> BlasBuildEntry
+    requires { ⌜ at + size 5 ≤ length (now table) ⌝ }
+    ensures { λ r. ⌜ r ≡ entryAt (now (table .entry)) at ⌝ }
+{
+    BlasBuildEntry {
+        blas: BlasId(u16_at(table, at)),
+        kind: u8_at(table, at + 2),
+        geometry_count: u16_at(table, at + 3),
+    }
+}
+
+pub fn geometry_at(table: &[u8], at: usize) -> BlasGeometry
+    requires { ⌜ at + size 6 ≤ length (now table) ⌝ }
+    ensures { λ r. ⌜ r ≡ geometryAt (now (table .entry)) at ⌝ }
+{
+    BlasGeometry {
+        flags: u8_at(table, at),
+        count: u32_at(table, at + 1),
+        first: u32_at(table, at + 5),
+        stride: u64_at(table, at + 9),
+        buffer: BufferId(u16_at(table, at + 17)),
+        vertex_format: u8_at(table, at + 19),
+        index_format: u8_at(table, at + 20),
+        index_buffer: BufferId(u16_at(table, at + 21)),
+        index_count_present: u8_at(table, at + 23),
+        index_count: u32_at(table, at + 24),
+        first_index_present: u8_at(table, at + 28),
+        first_index: u32_at(table, at + 29),
+        transform_buffer: BufferId(u16_at(table, at + 33)),
+        transform_buffer_offset_present: u8_at(table, at + 35),
+        transform_buffer_offset: u64_at(table, at + 36),
+    }
+}
+
+pub fn package_at(table: &[u8], at: usize) -> TlasPackage
+    requires { ⌜ at + size 7 ≤ length (now table) ⌝ }
+    ensures { λ r. ⌜ r ≡ packageAt (now (table .entry)) at ⌝ }
+{
+    TlasPackage {
+        tlas: TlasId(u16_at(table, at)),
+        slot_count: u16_at(table, at + 2),
+    }
+}
