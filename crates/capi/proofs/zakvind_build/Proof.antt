@@ -1,0 +1,22 @@
+-- `capi::zakvind_build` meets its contract: the answer is the build's in numbers, and the outputs are as the build leaves them. Assumes nothing.
+use borrow.Author.Needs.{needs}
+use Rattle.capi.proofs.zakvind_build.Statement.{statement}
+use Rattle.capi.proofs.zakvind_build.Tie as tie
+
+returns : tie.Need-returns
+returns c = (rw (← c .before .before .before .before .before .before .before .before .before .before .before .before .before .before .before .build-acceleration-structures .ensures .0) (c .build-answer .ensures), c .before .before .before .before .before .before .before .before .before .before .before .before .before .before .before .build-acceleration-structures .ensures .1)
+
+pub zakvind-build-spec : {M : Type 1} → statement M
+zakvind-build-spec =
+    tie.close
+    (tie.spec
+    (λ c κs. search needs)
+    (λ c κs. search needs)
+    (λ c. search needs)
+    (λ c. search needs)
+    (λ c. search needs)
+    (λ c. search needs)
+    (λ c. search needs)
+    (λ c. search needs)
+    (λ c. search needs)
+    returns)
