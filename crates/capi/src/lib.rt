@@ -14,20 +14,24 @@ use ray_tracing::TlasId;
 use ray_tracing::Written;
 use report::report;
 use sheet::read_sheet;
+use submission::CommandIndices;
+use submission::submit_numbers;
 ghost use mathlib.Core.Path.{_≡_};
 ghost use lib.ListN.{length};
-ghost use Rattle.ray_tracing.specs.declared.TlasId.{TlasId};
 ghost use Rattle.ray_tracing.specs.Causes.{readingOf};
 ghost use Rattle.ray_tracing.specs.Reading.{accepted, rejected, readSheet};
 ghost use Rattle.ray_tracing.specs.Plan as Plan;
 ghost use Rattle.ray_tracing.specs.Plan.{recorded, nothing-recorded, not-built, answerOf};
 ghost use Rattle.ray_tracing.specs.Instances.{instanceFrom, appendedOf, appendRule, appendBytes};
+ghost use Rattle.ray_tracing.specs.Submission.{submission, decode};
 ghost use Rattle.ray_tracing.specs.Report.{reportedOf, reportRule, reportBytes};
 ghost use Rattle.ray_tracing.proofs.Inside.{tablesOf};
 ghost use Rattle.causes.specs.Figures.{causeOf};
+ghost use Rattle.actions.specs.Outcome.{lentOf};
+ghost use Rattle.submission.specs.Numbers.{pieceOf, told};
 ghost use Rattle.plan.specs.Planned.{outputsOf};
 ghost use Rattle.build.specs.Room.{outputsAfter};
-ghost use Rattle.capi.specs.Answers.{sheetAnswer, builtAnswer, appendAnswer, reportAnswer};
+ghost use Rattle.capi.specs.Answers.{sheetAnswer, builtAnswer, submitTold, appendAnswer, reportAnswer};
 
 // What reading a sheet came to: number and place, or version, alignment, counter, and start and count of sections 1 to 9.
 #[repr(C)]
@@ -76,6 +80,15 @@ pub struct BuildAnswer {
     pub init_ranges: u64,
     pub compactable: u64,
     pub lists: u64,
+}
+
+// What a submission came to: number, action and figures.
+#[repr(C)]
+pub struct SubmitAnswer {
+    pub number: u64,
+    pub action: u64,
+    pub f0: u64,
+    pub f1: u64,
 }
 
 // What appending an instance came to: number, E and figures, or how many bytes are in use.
@@ -293,6 +306,40 @@ pub extern "C" fn zakvind_build(
         compactable,
         lists,
     ))
+}
+
+// The counter steps where it lies.
+#[no_mangle]
+pub extern "C" fn zakvind_submit(
+    indices: &mut CommandIndices,
+    blases: &mut [u8],
+    tlases: &mut [u8],
+    dependency_counts: &mut [u16],
+    dependencies: &mut [u16],
+    actions: &[u32],
+    lists: &[u16],
+) -> SubmitAnswer
+    ensures { λ r. ⌜ (submitTold r (now (indices .exit) .«next_acceleration_structure_build_command_index») (now (blases .exit)) (now (tlases .exit)) (now («dependency_counts» .exit)) (now (dependencies .exit))
+        ≡ told (submission (lentOf (now (indices .entry) .«next_acceleration_structure_build_command_index») (now (blases .entry)) (now (tlases .entry)) (now («dependency_counts» .entry)) (now (dependencies .entry))) (decode (pieceOf (now (actions .entry)) (now (lists .entry))))))
+        × (now (indices .exit) .«active_submission_index» ≡ now (indices .entry) .«active_submission_index») ⌝ }
+{
+    let counter = indices.next_acceleration_structure_build_command_index;
+    let s = submit_numbers(
+        counter,
+        blases,
+        tlases,
+        dependency_counts,
+        dependencies,
+        actions,
+        lists,
+    );
+    indices.next_acceleration_structure_build_command_index = s.counter;
+    SubmitAnswer {
+        number: s.number,
+        action: s.action,
+        f0: s.first,
+        f1: s.second,
+    }
 }
 
 fn append_answer(appended: Appended) -> AppendAnswer
