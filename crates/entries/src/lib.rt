@@ -10,7 +10,7 @@ use ray_tracing::CheckedGeometry;
 use ray_tracing::Declared;
 use ray_tracing::GivenBuffer;
 use ray_tracing::Verdict;
-use records::blas_at;
+use records::blas_of_entry;
 use records::buffer_at;
 use records::declared_at;
 use records::entry_at;
@@ -24,7 +24,7 @@ ghost use Rattle.ray_tracing.specs.Layout.{size};
 ghost use Rattle.ray_tracing.specs.Mentions.{bufferOf};
 ghost use Rattle.ray_tracing.specs.Checks.{declaredOf, lentOf, checkedOf};
 ghost use Rattle.ray_tracing.specs.Triangles.{lent};
-ghost use Rattle.ray_tracing.specs.Plan.{verdictOf, firstOf, firstDrawing, entryOf, geometryCount, blasOfEntry, checkedAt, checkedE, judgeEntry, judgeEntries};
+ghost use Rattle.ray_tracing.specs.Plan.{verdictOf, firstOf, firstDrawing, entryOf, geometryCount, checkedAt, checkedE, judgeEntry, judgeEntries};
 ghost use Rattle.ray_tracing.proofs.Inside.{Named};
 ghost use Rattle.ids.specs.Lent.{forEntries};
 ghost use Rattle.entries.specs.Index.{Indexable, Heads, Nexts, nthOf, following, standing};
@@ -125,17 +125,6 @@ fn check_geometry(
     let index = given_buffer(buffers, g.index_buffer);
     let transform = given_buffer(buffers, g.transform_buffer);
     check_triangles(blas, declared, g, data, index, transform)
-}
-
-// The Blas of entry i.
-pub fn blas_of_entry(blases: &[u8], entries: &[u8], i: usize) -> Blas
-    requires { ⌜ i * 5 + 5 ≤ length (now entries) ⌝ }
-    requires { ⌜ entryOf (forEntries [] [] [] (now entries) []) i .blas .0 < length (now blases) / size 2 ⌝ }
-    ensures { λ r. ⌜ r ≡ blasOfEntry (forEntries [] (now (blases .entry)) [] (now (entries .entry)) []) i ⌝ }
-{
-    let entry = entry_at(entries, i * 5);
-    let id = entry.blas;
-    blas_at(blases, id.0 as usize * 28)
 }
 
 // The j-th geometry of entry i, which is geometry g, and for which its Blas declares what stands at a place of section 3.

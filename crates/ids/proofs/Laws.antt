@@ -1,18 +1,18 @@
 -- Laws of the ids of one geometry, by its entry's kind.
 use Prim.Native.Nat.{ℕ, _+_, _*_}
-use mathlib.Core.Bool.{Bool, true, false, cond}
-use mathlib.Core.Path.{_≡_, refl, sym, ap, _∙_}
+use mathlib.Core.Bool.{cond}
+use mathlib.Core.Path.{_≡_, sym, ap, _∙_}
 use mathlib.Core.List.{List, []}
 use lib.Dec.{eqb}
 use borrow.Author.Tests.{eq-eqb, ne-eqb}
 use Rattle.ray_tracing.specs.declared.BlasBuildEntry.{BlasBuildEntry}
 use Rattle.ray_tracing.specs.declared.BlasGeometry.{BlasGeometry}
 use Rattle.ray_tracing.specs.declared.TlasPackage.{TlasPackage}
-use Rattle.ray_tracing.specs.Records.{fieldAt, entryAt, geometryAt, packageAt}
+use Rattle.ray_tracing.specs.Records.{entryAt, geometryAt, packageAt}
 use Rattle.ray_tracing.specs.Causes.{Cause}
 use Rattle.ray_tracing.specs.Mentions.{bufferMention, blasMention, tlasMention}
-use Rattle.ray_tracing.specs.Instances.{presentAt, slotMention}
-use Rattle.ray_tracing.specs.Plan.{Verdict, passed, refused, on, _or_, atE, firstOf, geometryCount, slotCount, geometryIds, entryIds, slotIds, packageIds}
+use Rattle.ray_tracing.specs.Instances.{slotMention}
+use Rattle.ray_tracing.specs.Plan.{Verdict, passed, refused, _or_, atE, firstOf, geometryCount, slotCount, geometryIds, entryIds, slotIds, packageIds}
 use Rattle.ray_tracing.proofs.Verdicts.{or-none}
 use Rattle.ids.specs.Lent.{forEntries, forPackages}
 
@@ -81,11 +81,7 @@ pub of-slot :
     → v ≡ atE p j m
     → m ≡ slotMention blases slots (s * 56)
     → v ≡ slotIds (forPackages blases [] [] slots) p j s
-of-slot blases slots p j s e q = e ∙ ap (atE p j) q ∙ go (presentAt slots (s * 56)) (blasMention blases (fieldAt 8 slots (s * 56) 1))
-  where
-    go : (b : Bool) (n : ℕ) → atE p j (cond b n 0) ≡ on b (atE p j n)
-    go true n = refl
-    go false n = refl
+of-slot blases slots p j s e q = e ∙ ap (atE p j) q
 
 -- a package's ids: its slots', then its Tlas
 pub of-package :

@@ -13,7 +13,7 @@ use Rattle.instance.specs.Writable.{Writable}
 use Rattle.ray_tracing.specs.Guard.{refuse}
 use Rattle.ray_tracing.specs.Instances.{presentOf, slotsBytes}
 use Rattle.ray_tracing.specs.Plan.{Tables, passed, recordsIn, entryOf, geometryOf, geometryCount, slotCount, slotPresent, slotCustomData, blasOfEntry, checkedAt, checkedE, asked, judgeEntry, judgeEntries, judgeSlot, judgePackage, judgePackages, blasScratch, tlasScratch, offsetsFrom, stagingFrom, rangesOfEntry, rangesFrom, compactableFrom, entryBlases, packageLists, planOf}
-use Rattle.ray_tracing.proofs.Verdicts.{or-passed, on-true, none-atE, each-passed, each-drawing}
+use Rattle.ray_tracing.proofs.Verdicts.{or-passed, none-atE, none-cond, each-passed, each-drawing}
 use Rattle.ray_tracing.proofs.Inside.{Inside, drawnBefore, drawn-none, drawn-more, slotsBefore, slots-none, slots-more}
 use Rattle.plan.specs.Parts.{ofEntries, ofPackages, packageList, AllWritable, Drawn}
 use Rattle.plan.specs.Ranges.{geometryRanges, entryRanges, allRanges, AllFit, DrawnFit}
@@ -151,7 +151,7 @@ module _ (x : Tables) (e : judgePackages x ≡ passed) where
       → j < slotCount x p
       → slotPresent (x .slots) (slotsBefore x p + j) ≡ true
       → slotCustomData (x .slots) (slotsBefore x p + j) < 2 ^ 24
-  slot-narrow p j h k s = leb-false _ _ (first-none _ _ (none-atE p j _ (on-true _ _ (slot-passed p j h k) s)))
+  slot-narrow p j h k s = leb-false _ _ (first-none _ _ (none-cond _ _ (none-atE p j _ (slot-passed p j h k)) s))
 
   module _ (i : Inside x) where
     writable-at : (s : ℕ) → s < recordsIn x 8 → slotPresent (x .slots) s ≡ true → Writable (x .blases) (x .slots) (s * 56)

@@ -2,17 +2,15 @@
 use instance::present_of;
 use instance::put_slots;
 use ray_tracing::Asked;
-use ray_tracing::Blas;
 use ray_tracing::BlasGeometry;
 use ray_tracing::BufferId;
 use ray_tracing::Range;
-use ray_tracing::Tlas;
 use ray_tracing::Written;
-use records::blas_at;
+use records::blas_of_entry;
 use records::entry_at;
 use records::geometry_at;
 use records::package_at;
-use records::tlas_at;
+use records::tlas_of_package;
 use scratch::add_rounded;
 use wire::u8_at;
 use wire::u16_at;
@@ -26,26 +24,10 @@ ghost use lib.Seq.{sets};
 ghost use Rattle.ray_tracing.specs.Checks.{rangeOf, askedOf};
 ghost use Rattle.ray_tracing.specs.Triangles.{indexWidth};
 ghost use Rattle.ray_tracing.specs.Instances.{presentOf, slotsBytes};
-ghost use Rattle.ray_tracing.specs.Plan.{blasOfEntry, tlasOfPackage, blasScratch, tlasScratch, offsetsFrom, compactableFrom, entryBlases, dependenciesFrom, slotCount, packageLists, stagingFrom, countsOf, written};
+ghost use Rattle.ray_tracing.specs.Plan.{blasScratch, tlasScratch, offsetsFrom, compactableFrom, entryBlases, dependenciesFrom, slotCount, packageLists, stagingFrom, countsOf, written};
 ghost use Rattle.plan.specs.Ranges.{dataRange, indexRange, transformRange, geometryRanges, entryRanges, allRanges, Fits, AllFit, geometriesIn, DrawnFit};
 ghost use Rattle.plan.specs.Planned.{planned, Plannable, Room, outputsOf};
 ghost use Rattle.plan.specs.Parts.{ofEntries, ofPackages, entriesIn, packagesIn, EntryBlases, PackageTlases, slotsIn, Drawn, AllWritable, compactableOf, dependencyOf, packageList};
-
-fn blas_of_entry(blases: &[u8], entries: &[u8], i: usize) -> Blas
-    requires { ⌜ (i < entriesIn (now entries)) × EntryBlases (now blases) (now entries) ⌝ }
-    ensures { λ r. ⌜ r ≡ blasOfEntry (ofEntries (now (blases .entry)) (now (entries .entry))) i ⌝ }
-{
-    let blas = entry_at(entries, i * 5).blas;
-    blas_at(blases, blas.0 as usize * 28)
-}
-
-fn tlas_of_package(tlases: &[u8], packages: &[u8], p: usize) -> Tlas
-    requires { ⌜ (p < packagesIn (now packages)) × PackageTlases (now tlases) (now packages) ⌝ }
-    ensures { λ r. ⌜ r ≡ tlasOfPackage (ofPackages (now (tlases .entry)) (now (packages .entry)) []) p ⌝ }
-{
-    let tlas = package_at(packages, p * 4).tlas;
-    tlas_at(tlases, tlas.0 as usize * 22)
-}
 
 fn slot_count_of(packages: &[u8], p: usize) -> usize
     requires { ⌜ p < packagesIn (now packages) ⌝ }

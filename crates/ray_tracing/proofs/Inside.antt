@@ -41,7 +41,7 @@ use Rattle.ray_tracing.specs.Plan.{
 }
 use Rattle.ray_tracing.proofs.Reading.{or-fine, on-fine}
 use Rattle.ray_tracing.proofs.Mentions.{mention-inside}
-use Rattle.ray_tracing.proofs.Verdicts.{or-passed, on-passed, on-true, none-atE, each-passed, each-drawing}
+use Rattle.ray_tracing.proofs.Verdicts.{or-passed, on-passed, on-true, none-atE, none-cond, each-passed, each-drawing}
 
 -- the scratch alignment and the eight tables, as an entry point is lent them
 abbrev pub tablesOf : ℕ → List ℕ → List ℕ → List ℕ → List ℕ → List ℕ → List ℕ → List ℕ → List ℕ → Tables
@@ -313,5 +313,5 @@ inside x t v =
       package-tlas = λ p h. mention-inside 22 (x .tlases) _ (none-atE p 0 _ (or-passed (firstOf (λ (j : ℕ). slotIds x p j (slotsBefore x p + j)) 0 (slotCount x p)) _ (packages-passed x v p h) .1));
       slots-all = tables-slots x t;
       slots = λ p h. rw (tables-slots x t) at (slots-within x (recordsIn x 7) p h);
-      slot-blas = λ p j h k s. mention-inside 28 (x .blases) _ (none-atE p j _ (on-true _ _ (slot-passed x v p j h k) s));
+      slot-blas = λ p j h k s. mention-inside 28 (x .blases) _ (none-cond _ _ (none-atE p j _ (slot-passed x v p j h k)) s);
     }

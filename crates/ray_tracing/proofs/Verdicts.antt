@@ -2,7 +2,7 @@
 use Prim.Native.Nat.{ℕ, zero, suc, _+_, _-_, _*_, _/_, _≤_, _<_}
 use native.Mathlib.Nat.{not-suc-le-zero, le-of-suc-le-suc, add-zero, le-div-iff-mul-le}
 use native.Mathlib.Omega.{arith}
-use mathlib.Core.Bool.{Bool, true, false}
+use mathlib.Core.Bool.{Bool, true, false, cond}
 use mathlib.Core.Path.{_≡_, refl, sym, ap, _∙_}
 use mathlib.Core.List.{List}
 use lib.ListN.{length}
@@ -33,6 +33,13 @@ on-true false v h g =
 pub none-atE : (e f n : ℕ) → atE e f n ≡ passed → n ≡ 0
 none-atE e f zero h = refl
 none-atE e f (suc n) h =
+    let z : _≡_ {A = ℕ} 0 1 = cc in
+    absurd (omega arith)
+
+-- a cause that is there only if a test holds
+pub none-cond : (t : Bool) (n : ℕ) → cond t n 0 ≡ 0 → t ≡ true → n ≡ 0
+none-cond true n h g = h
+none-cond false n h g =
     let z : _≡_ {A = ℕ} 0 1 = cc in
     absurd (omega arith)
 

@@ -27,7 +27,7 @@ use Rattle.ray_tracing.specs.Checks as checks
 use Rattle.ray_tracing.specs.Triangles.{lent, trianglesRule}
 use Rattle.ray_tracing.specs.Boxes.{boxesRule}
 use Rattle.ray_tracing.specs.Mentions.{bufferMention, blasMention, tlasMention, bufferOf, blasOf, tlasOf}
-use Rattle.ray_tracing.specs.Instances.{presentAt, instanceRule, presentOf, slotsBytes}
+use Rattle.ray_tracing.specs.Instances.{presentAt, slotMention, slotRule, presentOf, slotsBytes}
 
 infixr 20 _or_
 -- what a build is lent to read: the scratch alignment, and sections 1 to 8
@@ -178,7 +178,7 @@ entryIds x i g =
     firstOf (λ j. geometryIds x i j (g + j)) 0 (geometryCount x i) or atE i 0 (blasMention (x .blases) (entryOf x i .blas .0))
 
 abbrev pub slotIds : Tables → ℕ → ℕ → ℕ → Verdict
-slotIds x p j s = on (slotPresent (x .slots) s) (atE p j (blasMention (x .blases) (slotBlas (x .slots) s)))
+slotIds x p j s = atE p j (slotMention (x .blases) (x .slots) (s * size 8))
 
 abbrev pub packageIds : Tables → ℕ → ℕ → Verdict
 packageIds x p s =
@@ -221,9 +221,7 @@ judgeEntries x = firstDrawing (judgeEntry x) (geometryCount x) 0 0 (recordsIn x 
 -- "Per present slot: 34, its bytes, 35; after the slots, 36."
 
 abbrev pub judgeSlot : Tables → ℕ → ℕ → ℕ → Verdict
-judgeSlot x p j s =
-    on (slotPresent (x .slots) s)
-    (atE p j (instanceRule (tlasOfPackage x p) (blasOf (x .blases) (slotBlas (x .slots) s)) (slotCustomData (x .slots) s)))
+judgeSlot x p j s = atE p j (slotRule (tlasOfPackage x p) (x .blases) (x .slots) (s * size 8))
 
 -- "too many present slots | 36 | E, count, most"
 abbrev pub judgePackage : Tables → ℕ → ℕ → Verdict

@@ -1,4 +1,4 @@
-// A record of a lent table by value, and a mention of one: what the definitions in ray_tracing/specs/Records.antt and Mentions.antt say.
+// A record of a lent table by value, a mention of one, and what an entry or a package names: what the definitions in ray_tracing/specs/Records.antt and Mentions.antt say.
 use ray_tracing::Blas;
 use ray_tracing::BlasBuildEntry;
 use ray_tracing::BlasGeometry;
@@ -15,11 +15,11 @@ use wire::u16_at;
 use wire::u32_at;
 use wire::u64_at;
 ghost use mathlib.Core.Path.{_≡_};
-ghost use Prim.Native.Nat.{_+_, _≤_};
+ghost use Prim.Native.Nat.{_+_, _*_, _/_, _≤_, _<_};
 ghost use lib.ListN.{length};
 ghost use Rattle.ray_tracing.specs.Layout.{size};
 ghost use Rattle.ray_tracing.specs.Records.{bufferAt, blasAt, declaredAt, tlasAt, entryAt, geometryAt, packageAt};
-ghost use Rattle.ray_tracing.specs.Mentions.{mentionOf, bufferMention, blasMention, tlasMention};
+ghost use Rattle.ray_tracing.specs.Mentions.{mentionOf, bufferMention, blasMention, tlasMention, blasOf, tlasOf};
 
 // A mention of an id, which is a number until it is judged here: one function for each sort.
 pub fn buffer_mention(table: &[u8], id: usize) -> Mentioned
@@ -150,4 +150,22 @@ pub fn package_at(table: &[u8], at: usize) -> TlasPackage
         tlas: TlasId(u16_at(table, at)),
         slot_count: u16_at(table, at + 2),
     }
+}
+
+// The Blas of entry i.
+pub fn blas_of_entry(blases: &[u8], entries: &[u8], i: usize) -> Blas
+    requires { ⌜ (i * size 5 + size 5 ≤ length (now entries)) × (entryAt (now entries) (i * size 5) .blas .0 < length (now blases) / size 2) ⌝ }
+    ensures { λ r. ⌜ r ≡ blasOf (now (blases .entry)) (entryAt (now (entries .entry)) (i * size 5) .blas .0) ⌝ }
+{
+    let id = entry_at(entries, i * 5).blas;
+    blas_at(blases, id.0 as usize * 28)
+}
+
+// The Tlas of package p.
+pub fn tlas_of_package(tlases: &[u8], packages: &[u8], p: usize) -> Tlas
+    requires { ⌜ (p * size 7 + size 7 ≤ length (now packages)) × (packageAt (now packages) (p * size 7) .tlas .0 < length (now tlases) / size 4) ⌝ }
+    ensures { λ r. ⌜ r ≡ tlasOf (now (tlases .entry)) (packageAt (now (packages .entry)) (p * size 7) .tlas .0) ⌝ }
+{
+    let id = package_at(packages, p * 4).tlas;
+    tlas_at(tlases, id.0 as usize * 22)
 }

@@ -1,9 +1,8 @@
 -- A table of the start, judged as in a build: what is refused, and how many records it has where nothing is.
 use Prim.Native.Nat.{ℕ, _/_, _≤_}
 use native.Mathlib.Omega.{arith}
-use mathlib.Core.Logic.{_⊎_}
 use mathlib.Core.Option.{none, some}
-use mathlib.Core.Path.{_≡_, refl, sym, ap, _∙_}
+use mathlib.Core.Path.{_≡_, refl, sym, ap, subst, _∙_}
 use mathlib.Core.List.{List}
 use lib.ListN.{length}
 use Rattle.ray_tracing.specs.declared.SheetError.{SheetError}
@@ -13,7 +12,7 @@ use Rattle.ray_tracing.specs.Layout.{Layout, total}
 use Rattle.ray_tracing.specs.Reading.{Judged, fine, refused, judgeLent}
 use Rattle.ray_tracing.specs.Causes.{Cause, bare, sheetNumber, judgedOf}
 use Rattle.ray_tracing.specs.Submission.{tableCause}
-use Rattle.ray_tracing.proofs.Lent.{Tabular}
+use Rattle.ray_tracing.proofs.Lent.{Only, only-above}
 use Rattle.actions.proofs.Start.{few-records}
 
 table-none : (j : Judged) → tableCause j ≡ none → j ≡ fine
@@ -30,8 +29,8 @@ module _ {x : ray.Judged} {j : Judged} (p : judgedOf x ≡ j) where
   table-fine q = ap tableCause (sym (ap judgedOf q) ∙ p)
 
   module _ {e : SheetError} {place : ℕ} (q : x ≡ judged.Refused e place) where
-    pub table-number : Tabular j → (sheetNumber e ≡ 4) ⊎ (sheetNumber e ≡ 5)
-    table-number h = rw (sym p ∙ ap judgedOf q) at h
+    pub table-number : Only j → 4 ≤ sheetNumber e
+    table-number h = only-above (subst Only (sym p ∙ ap judgedOf q) h)
 
     pub table-refused : {c : Cause} → c ≡ bare (sheetNumber e) → some c ≡ tableCause j
     table-refused h = rw (h, sym p ∙ ap judgedOf q)

@@ -14,7 +14,6 @@ use ray_tracing::TlasId;
 use ray_tracing::ValidateAsActionsError;
 use sheet::judge_lent;
 ghost use mathlib.Core.Path.{_≡_};
-ghost use mathlib.Core.Logic.{_⊎_};
 ghost use mathlib.Core.Option.{none};
 ghost use mathlib.Core.List.{[]};
 ghost use Prim.Native.Nat.{ℕ, _+_, _-_, _*_, _≤_, _<_};
@@ -68,9 +67,9 @@ fn judge_lists(
     Checked::Fine
 }
 
-// Why a lent table is refused, as why a submission is.
+// Why a lent table is refused, as why a submission is: `validate::table_error` answers another type, a build's.
 fn table_error(e: SheetError) -> ValidateAsActionsError
-    requires { ⌜ (sheetNumber e ≡ 4) ⊎ (sheetNumber e ≡ 5) ⌝ }
+    requires { ⌜ 4 ≤ sheetNumber e ⌝ }
     ensures { λ r. ⌜ submissionCause r ≡ bare (sheetNumber e) ⌝ }
 {
     match e {

@@ -14,13 +14,11 @@ use Rattle.ray_tracing.specs.declared.Tlas.{Tlas}
 use Rattle.ray_tracing.specs.declared.BlasBuildEntry.{BlasBuildEntry}
 use Rattle.ray_tracing.specs.declared.TlasPackage.{TlasPackage}
 use Rattle.ray_tracing.specs.Records.{entryAt, packageAt}
-use Rattle.ray_tracing.specs.Reading as reading
-use Rattle.ray_tracing.proofs.Reading.{Only, four, five}
 use Rattle.ray_tracing.specs.Guard.{refuse}
 use Rattle.ray_tracing.specs.Causes.{Cause, cause, bare, buildCause}
-use Rattle.ray_tracing.specs.Mentions.{blasMention, blasOf}
-use Rattle.ray_tracing.specs.Instances.{presentOf, slotMention, slotRule, instanceRule}
-use Rattle.ray_tracing.specs.Plan.{Tables, Verdict, passed, refused, on, _or_, atE, firstOf, slotCount, slotPresent, slotBlas, slotCustomData, blasOfEntry, tlasOfPackage, judgeSlot, judgePackage, totalFrom, tlasDestroyed, blasBuildable}
+use Rattle.ray_tracing.specs.Mentions.{blasMention}
+use Rattle.ray_tracing.specs.Instances.{presentOf, slotMention, slotRule}
+use Rattle.ray_tracing.specs.Plan.{Tables, Verdict, passed, refused, on, _or_, atE, firstOf, slotCount, slotPresent, slotBlas, blasOfEntry, tlasOfPackage, judgePackage, totalFrom, tlasDestroyed, blasBuildable}
 use Rattle.ids.specs.Lent.{forEntries, forPackages}
 use Rattle.ray_tracing.proofs.Causes.{positive}
 
@@ -34,11 +32,6 @@ instance-some c e f zero h =
     let z : buildCause c .number ≡ 0 = ap (λ (c : Cause). c .number) h in
     absurd (omega (arith, positive c))
 instance-some c e f (suc n) h = ap (refused e f) h
-
--- a cause that is there only if a test holds
-on-cond : (e f : ℕ) (b : Bool) (n : ℕ) → atE e f (cond b n 0) ≡ on b (atE e f n)
-on-cond e f true n = refl
-on-cond e f false n = refl
 
 -- a slot whose Blas is inside if it is present is not refused for it
 pub slot-named :
@@ -55,12 +48,6 @@ slot-named blases slots s h = go (slotPresent slots s) h
 module _ (blases tlases packages slots : List ℕ) (p s count : ℕ) where
   abbrev x : Tables
   x = forPackages blases tlases packages slots
-
-  -- a slot by its rule
-  slot-judged : (j : ℕ) → atE p j (slotRule (tlasOfPackage x p) blases slots ((s + j) * 56)) ≡ judgeSlot x p j (s + j)
-  slot-judged j =
-      on-cond p j (slotPresent slots (s + j))
-      (instanceRule (tlasOfPackage x p) (blasOf blases (slotBlas slots (s + j))) (slotCustomData slots (s + j)))
 
   -- a package: its slots, then how many of them are present
   pub of-package :
@@ -79,11 +66,6 @@ module _ (blases tlases packages slots : List ℕ) (p s count : ℕ) where
       ∙ (λ k.
       firstOf (λ j. atE p j (slotRule (t k) blases slots ((s + j) * 56))) 0 (e k)
       or on (ltb (t k .«max_instance_count») (n′ k)) (refused p 0 (cause 36 (n′ k) (t k .«max_instance_count») 0)))
-      ∙ (λ k.
-      firstOf (λ j. slot-judged j k) 0 (slotCount x p)
-      or on
-      (ltb (tlasOfPackage x p .«max_instance_count») (presentOf slots s (slotCount x p)))
-      (refused p 0 (cause 36 (presentOf slots s (slotCount x p)) (tlasOfPackage x p .«max_instance_count») 0)))
 
 -- ---- totals, one more size
 
@@ -136,9 +118,3 @@ blas-judged blases entries i e b v =
     ∙ (λ k.
     on (eqb (b k .destroyed) 1) (refused i 0 (cause 21 2 (e k .blas .0) 0))
     or on (eqb (b k .«compacted_state») 3) (refused i 0 (bare 38)))
-
--- ---- lent tables are refused with 4 or 5
-
-pub only-above : {n p : ℕ} → Only (reading.refused n p) → 4 ≤ n
-only-above four = omega arith
-only-above five = omega arith

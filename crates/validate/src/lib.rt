@@ -1,5 +1,4 @@
 // Judging a build, in the paper's order: tables, ids, entries, packages, the scratch, the final checks. Nothing is written.
-use entries::blas_of_entry;
 use entries::judge_entries;
 use ids::first;
 use ids::judge_ids;
@@ -15,9 +14,10 @@ use ray_tracing::Resource;
 use ray_tracing::SheetError;
 use ray_tracing::Tlas;
 use ray_tracing::Verdict;
+use records::blas_of_entry;
 use records::entry_at;
 use records::package_at;
-use records::tlas_at;
+use records::tlas_of_package;
 use scratch::add_rounded;
 use sheet::judge_lent;
 ghost use mathlib.Core.Path.{_≡_};
@@ -29,9 +29,9 @@ ghost use Rattle.ray_tracing.specs.Layout.{layout, size};
 ghost use Rattle.ray_tracing.specs.Reading.{judgeLent};
 ghost use Rattle.ray_tracing.specs.Causes.{cause, bare, buildCause, sheetNumber, judgedOf};
 ghost use Rattle.ray_tracing.specs.Instances.{slotMention, slotRule, instanceCause};
-ghost use Rattle.ray_tracing.specs.Plan.{verdictOf, refused, on, _or_, atE, firstOf, bySection, judgeTables, slotCount, tlasOfPackage, judgePackage, judgePackages, blasTotal, tlasTotal, scratchSize, tlasDestroyed, blasBuildable, packageOf, entryOf};
+ghost use Rattle.ray_tracing.specs.Plan.{verdictOf, refused, on, _or_, atE, firstOf, bySection, judgeTables, slotCount, judgePackage, judgePackages, blasTotal, tlasTotal, scratchSize, tlasDestroyed, blasBuildable, packageOf, entryOf};
 ghost use Rattle.ray_tracing.proofs.Inside.{tablesOf};
-ghost use Rattle.ray_tracing.proofs.Reading.{Only};
+ghost use Rattle.ray_tracing.proofs.Lent.{Only};
 ghost use Rattle.ids.specs.Lent.{forEntries, forPackages};
 ghost use Rattle.validate.specs.Judging.{judgementOf, judgeRecords, judgeBuild, PackagesInside, EntriesNamed, PackagesNamed};
 
@@ -89,17 +89,6 @@ fn judge_present(present: usize, most: u32, p: usize) -> Verdict
         );
     }
     Verdict::Passed
-}
-
-// The Tlas of package p.
-fn tlas_of_package(tlases: &[u8], packages: &[u8], p: usize) -> Tlas
-    requires { ⌜ p * 4 + 4 ≤ length (now packages) ⌝ }
-    requires { ⌜ packageOf (forPackages [] [] (now packages) []) p .tlas .0 < length (now tlases) / size 4 ⌝ }
-    ensures { λ r. ⌜ r ≡ tlasOfPackage (forPackages [] (now (tlases .entry)) (now (packages .entry)) []) p ⌝ }
-{
-    let package = package_at(packages, p * 4);
-    let id = package.tlas;
-    tlas_at(tlases, id.0 as usize * 22)
 }
 
 // Package p, whose slots stand from slot s on: they, then how many are present.
@@ -318,7 +307,7 @@ fn judge_final(size: u64, blases: &[u8], tlases: &[u8], entries: &[u8], packages
     first(v, blases_buildable(blases, entries))
 }
 
-// A lent table is refused with 4 or 5 only.
+// A lent table is refused with 4 or 5 only. `submission::table_error` answers another type, a submission's.
 fn table_error(e: SheetError) -> BuildAccelerationStructureError
     requires { ⌜ 4 ≤ sheetNumber e ⌝ }
     ensures { λ r. ⌜ buildCause r ≡ bare (sheetNumber e) ⌝ }

@@ -13,5 +13,8 @@ returns c = (sym (ap length (compactable-some (ofEntries (c .before .before .bef
 returns-2 : tie.Need-returns-2
 returns-2 c = (sym (ap length (compactable-not (ofEntries (c .before .before .before .before .before .args .blases .now) (c .before .before .before .before .before .args .entries .now)) _ (c .before .before .blas-of-entry .ensures) (c .if1 .left))), search needs)
 
+blas-of-entry-requires : tie.Need-blas-of-entry-requires
+blas-of-entry-requires c κs = (search needs, c .before .before .pre .1 (c .before .before .args .i) (c .before .before .pre .0))
+
 pub compactable-cells-spec : {M : Type 1} → statement M
-compactable-cells-spec = tie.close (tie.spec (λ c κs. search needs) returns returns-2)
+compactable-cells-spec = tie.close (tie.spec blas-of-entry-requires returns returns-2)

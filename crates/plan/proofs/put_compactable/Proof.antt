@@ -19,11 +19,14 @@ returns c = let e = compactable-some (ofEntries (c .before .before .before .befo
 returns-2 : tie.Need-returns-2
 returns-2 c = let e = compactable-not (ofEntries (c .before .before .before .before .before .before .args .blases .now) (c .before .before .before .before .before .before .args .entries .now)) _ (c .before .before .blas-of-entry .ensures) (c .if1 .left) in (omega (arith, ap length e), ap (sets (c .before .before .before .before .before .before .args .out .now) (c .before .before .before .before .before .before .args .at)) (sym e))
 
+blas-of-entry-requires : tie.Need-blas-of-entry-requires
+blas-of-entry-requires c κs = (search needs, c .before .before .before .pre .0 .1 (c .before .before .before .args .i) (c .before .before .before .pre .0 .0))
+
 pub put-compactable-spec : {M : Type 1} → statement M
 put-compactable-spec =
     tie.close
     (tie.spec
-    (λ c κs. search needs)
+    blas-of-entry-requires
     (λ c. search needs)
     (λ c κs. search needs)
     (λ c. search needs)

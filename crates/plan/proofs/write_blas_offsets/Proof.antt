@@ -31,6 +31,9 @@ loop-again c = (search needs, offset-step _ _ _ _ _ _ (c .before .before .loop-t
 returns : tie.Need-returns Inv-loop μ-loop
 returns c = sym (offset-done _ _ _ _ _ _ (c .loop-test .left)) ∙ c .before .loop .inv .1
 
+blas-of-entry-requires : tie.Need-blas-of-entry-requires Inv-loop μ-loop
+blas-of-entry-requires c κs = (search needs, c .before .before .before .before .before .pre .2 (c .before .loop .i) (c .loop-test .taken))
+
 pub write-blas-offsets-spec : {M : Type 1} → statement M
 write-blas-offsets-spec =
     tie.close
@@ -40,7 +43,7 @@ write-blas-offsets-spec =
     loop-holds
     (λ c. search needs)
     (λ c. search needs)
-    (λ c κs. search needs)
+    blas-of-entry-requires
     (λ c κs. search needs)
     (λ c. search needs)
     (λ c. search needs)

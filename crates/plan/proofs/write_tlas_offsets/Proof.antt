@@ -32,6 +32,9 @@ loop-again c = (search needs, offset-step _ _ _ _ _ _ (c .before .before .loop-t
 returns : tie.Need-returns Inv-loop μ-loop
 returns c = sym (offset-done _ _ _ _ _ _ (c .loop-test .left)) ∙ c .before .loop .inv .1
 
+tlas-of-package-requires : tie.Need-tlas-of-package-requires Inv-loop μ-loop
+tlas-of-package-requires c κs = (search needs, c .before .before .before .before .before .pre .2 (c .before .loop .p) (c .loop-test .taken))
+
 pub write-tlas-offsets-spec : {M : Type 1} → statement M
 write-tlas-offsets-spec =
     tie.close
@@ -41,7 +44,7 @@ write-tlas-offsets-spec =
     loop-holds
     (λ c. search needs)
     (λ c. search needs)
-    (λ c κs. search needs)
+    tlas-of-package-requires
     (λ c κs. search needs)
     (λ c. search needs)
     (λ c. search needs)

@@ -1,12 +1,12 @@
 -- `submission::judge_table` meets its contract: each return is the definition's own case. Assumes nothing.
-use Rattle.ray_tracing.proofs.Lent.{lent-tabular}
+use Rattle.ray_tracing.proofs.Lent.{lent-only}
 use Rattle.submission.proofs.Start.{table-fine, table-number, table-refused}
 use borrow.Author.Needs.{needs}
 use Rattle.submission.proofs.judge_table.Statement.{statement}
 use Rattle.submission.proofs.judge_table.Tie as tie
 
 table-error-requires : tie.Need-table-error-requires
-table-error-requires c κs = table-number (c .before .before .before .judge-lent .ensures) (c .before .e .given .1) (lent-tabular _ _ _ _ _)
+table-error-requires c κs = table-number (c .before .before .before .judge-lent .ensures) (c .before .e .given .1) (lent-only _ _ _ _ _)
 
 returns : tie.Need-returns
 returns c = table-fine (c .before .before .judge-lent .ensures) (c .enum-told .given .1)

@@ -4,7 +4,7 @@ use denote.Enum.Declared.{tagOf}
 use Rattle.ray_tracing.proofs.SheetError as T
 use mathlib.Core.Path.{_≡_, refl}
 use mathlib.Core.List.{[], _∷_}
-use mathlib.Core.Logic.{_⊎_, inl, inr}
+use Prim.Native.Nat.{_≤_}
 use native.Mathlib.Omega.{arith}
 use Rattle.ray_tracing.specs.declared.SheetError.{SheetError}
 use Rattle.ray_tracing.specs.declared.SheetError.the-variants as sheet
@@ -13,15 +13,12 @@ use borrow.Author.Needs.{needs}
 use Rattle.submission.proofs.table_error.Statement.{statement}
 use Rattle.submission.proofs.table_error.Tie as tie
 
-others : (e : SheetError) → OneOf (0 ∷ 1 ∷ 2 ∷ 4 ∷ []) (tagOf T.the-type e) → (sheetNumber e ≡ 4) ⊎ (sheetNumber e ≡ 5) → bare 5 ≡ bare (sheetNumber e)
+others : (e : SheetError) → OneOf (0 ∷ 1 ∷ 2 ∷ 4 ∷ []) (tagOf T.the-type e) → 4 ≤ sheetNumber e → bare 5 ≡ bare (sheetNumber e)
 others sheet.TooMany k h = absurd (miss (0 ∷ 1 ∷ 2 ∷ 4 ∷ []) 3 tt k)
 others sheet.InvalidValue k h = refl
-others sheet.UnknownVersion k (inl h) = absurd (omega arith)
-others sheet.UnknownVersion k (inr h) = absurd (omega arith)
-others sheet.Truncated k (inl h) = absurd (omega arith)
-others sheet.Truncated k (inr h) = absurd (omega arith)
-others sheet.TrailingBytes k (inl h) = absurd (omega arith)
-others sheet.TrailingBytes k (inr h) = absurd (omega arith)
+others sheet.UnknownVersion k h = absurd (omega arith)
+others sheet.Truncated k h = absurd (omega arith)
+others sheet.TrailingBytes k h = absurd (omega arith)
 
 returns : tie.Need-returns
 returns c = rw (c .enum-told .given .1)

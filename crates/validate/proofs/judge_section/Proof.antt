@@ -1,7 +1,7 @@
 -- `validate::judge_section` meets its contract: a lent table is refused with 4 or 5 only.
 use mathlib.Core.Path.{sym, ap, subst, _∙_}
 use Rattle.ray_tracing.specs.Plan.{bySection}
-use Rattle.ray_tracing.proofs.Reading.{Only, lent-only}
+use Rattle.ray_tracing.proofs.Lent.{Only, lent-only}
 use borrow.Author.Needs.{needs}
 use Rattle.validate.proofs.judge_section.Statement.{statement}
 use Rattle.validate.proofs.judge_section.Tie as tie

@@ -2,8 +2,7 @@
 use mathlib.Core.Path.{ap, subst}
 use Rattle.ray_tracing.specs.Causes.{judgedOf}
 use Rattle.ray_tracing.specs.Plan.{refused}
-use Rattle.ray_tracing.proofs.Reading.{Only}
-use Rattle.validate.proofs.Laws.{only-above}
+use Rattle.ray_tracing.proofs.Lent.{Only, only-above}
 use borrow.Author.Needs.{needs}
 use Rattle.validate.proofs.section_verdict.Statement.{statement}
 use Rattle.validate.proofs.section_verdict.Tie as tie

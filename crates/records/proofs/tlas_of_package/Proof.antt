@@ -1,14 +1,14 @@
--- `plan::tlas_of_package` meets its contract: the package that was read names the Tlas.
+-- `records::tlas_of_package` meets its contract: the package that was read names the Tlas.
 use borrow.Author.Needs.{needs}
 use native.Mathlib.Omega.{arith}
 use mathlib.Core.Path.{ap, _∙_}
 use Rattle.ray_tracing.specs.declared.TlasPackage.{TlasPackage}
 use Rattle.ray_tracing.specs.Mentions.{tlasOf}
-use Rattle.plan.proofs.tlas_of_package.Statement.{statement}
-use Rattle.plan.proofs.tlas_of_package.Tie as tie
+use Rattle.records.proofs.tlas_of_package.Statement.{statement}
+use Rattle.records.proofs.tlas_of_package.Tie as tie
 
 tlas-at-requires : tie.Need-tlas-at-requires
-tlas-at-requires c κs = omega (arith, ap (λ (e : TlasPackage). e .tlas .0) (c .before .before .package-at .ensures), c .before .before .before .before .before .pre .1 (c .before .before .before .before .before .args .p) (c .before .before .before .before .before .pre .0))
+tlas-at-requires c κs = omega (arith, ap (λ (e : TlasPackage). e .tlas .0) (c .before .before .package-at .ensures), c .before .before .before .before .before .pre .1)
 
 returns : tie.Need-returns
 returns c = c .tlas-at .ensures ∙ ap (λ (e : TlasPackage). tlasOf (c .before .before .before .before .before .before .args .tlases .now) (e .tlas .0)) (c .before .before .before .package-at .ensures)
