@@ -28,8 +28,10 @@ use Rattle.ray_tracing.specs.Plan.{
 use Rattle.ray_tracing.proofs.Verdicts.{or-passed}
 use Rattle.ray_tracing.proofs.Inside.{tablesOf, drawnBefore, slotsBefore, Inside, inside, tables-drawn, tables-slots}
 use Rattle.ids.specs.Lent.{forEntries, forPackages}
+use Rattle.ids.specs.Named.{EntriesNamed, PackagesNamed}
+use Rattle.packages.specs.Within.{PackagesInside}
 use Rattle.ids.proofs.Laws.{or-first, or-second}
-use Rattle.validate.specs.Judging.{not-built, nothing, to-record, judgeRecords, judgeBuild, PackagesInside, EntriesNamed, PackagesNamed}
+use Rattle.validate.specs.Judging.{not-built, nothing, to-record, judgeRecords, judgeBuild}
 
 module _ (x : Tables) where
   -- what judging ids and packages reads of the tables
