@@ -132,9 +132,9 @@ pub fn sheets() -> Vec<(&'static str, Vec<u8>, &'static str)> {
 }
 
 /// Answers and counters of submissions on what the one before left.
-type Answers = Vec<([u64; 4], u64)>;
+pub type Answers = Vec<([u64; 4], u64)>;
 
-fn submissions() -> Vec<(&'static str, Case, Answers)> {
+pub fn submissions() -> Vec<(&'static str, Case, Answers)> {
     let start = |counter: u64, tlases: usize, pieces: Vec<(Vec<u32>, Vec<u16>)>| Case::Submit {
         indices: [0, counter],
         blases: vec![0; 28],

@@ -11,6 +11,7 @@ mod mutants;
 mod paper;
 mod reading;
 mod record;
+mod record_submissions;
 mod rng;
 mod rust_side;
 mod shrink;
@@ -25,9 +26,7 @@ use side::Side;
 
 fn usage() -> ! {
     eprintln!("usage: oracle sheet < SHEET | batch FILE | compare N [SEED] [reading [FAULT]] | case FILE [reading]");
-    eprintln!(
-        "       oracle examples [reading] | faults N | texts N | mutant K SRC DST | record sheets|submissions FOLDER | corpus N FOLDER"
-    );
+    eprintln!("       oracle examples [reading] | faults N | texts N | mutant K SRC DST | record FOLDER | corpus N FOLDER");
     exit(2)
 }
 
@@ -150,16 +149,15 @@ fn run() {
             }
         }
         Some("record") => {
-            let (Some(kind), Some(folder)) = (word(1), word(2)) else { usage() };
-            let Some((bytes, text, numbers)) = record::record(kind) else { usage() };
-            for (file, content) in [("stdin", &bytes[..]), ("stdout", text.as_bytes())] {
+            let Some(folder) = word(1) else { usage() };
+            let all = record::record();
+            for (file, content) in [("stdin", &all.stdin[..]), ("stdout", all.stdout.as_bytes())] {
                 if let Err(e) = std::fs::write(format!("{folder}/{file}"), content) {
                     eprintln!("{folder}/{file}: {e}");
                     exit(2);
                 }
             }
-            let counts: Vec<String> = numbers.iter().map(|(n, k)| format!("{n}: {k}")).collect();
-            println!("{folder}: {} bytes, {} bytes of answers; {}", bytes.len(), text.len(), counts.join(", "));
+            println!("{folder}: {} sheets and {} submissions in {} bytes", all.sheets, all.submissions, all.stdin.len());
         }
         Some("examples") => {
             let (mut other, name) = other_side(&args[1..]);

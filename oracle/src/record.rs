@@ -1,14 +1,15 @@
-//! `record`: a fixed list of sheets, or of library submissions, with the answers of the Rust, for a program that replays
-//! them. The list is chosen so that every number that a sheet can draw, each boundary of each field and each kind of action
-//! is in it, and stays small. It is the same on every run.
-use std::collections::{BTreeMap, BTreeSet};
+//! `record`: a fixed list of sheets and library submissions (`record_submissions.rs`) with the answers of the Rust, for the
+//! program that replays them. The list is chosen so that every number that a sheet or a submission can draw, each boundary of
+//! each field and each kind of action is in it, and stays small. It is the same on every run.
+use std::collections::BTreeSet;
 
 use crate::generate;
 use crate::layout::*;
+use crate::record_submissions::{submission_bytes, submission_text, submissions};
 use crate::rust_side::RustSide;
 use crate::side::Case;
 
-const TOP: u64 = u64::MAX;
+pub const TOP: u64 = u64::MAX;
 
 /// A sheet that uses every section and passes: triangles with indices and a transform, boxes, two Tlases, an absent slot.
 fn rich() -> Raw {
@@ -41,8 +42,8 @@ fn rich() -> Raw {
     raw
 }
 
-/// Values about which a field may turn.
-fn boundaries(width: usize, v: u64) -> Vec<u64> {
+/// Values about which a field may turn; first those next to its own.
+pub fn boundaries(width: usize, v: u64) -> Vec<u64> {
     let top = TOP >> (64 - 8 * width);
     let mut all = vec![v.wrapping_sub(1) & top, v.wrapping_add(1) & top, 0, 1, top];
     let turns = [
@@ -109,20 +110,43 @@ fn field_by_field(list: &mut List, rust: &mut RustSide, base: &Raw) {
     }
 }
 
-/// Every list of up to three actions on two small tables, at four counters.
-fn actions(list: &mut List) {
-    let mut base = rich();
-    base.sections[ACTIONS].clear();
+/// A small sheet whose build has one Blas, and a Tlas over it and another.
+fn small() -> Raw {
+    let mut base = Raw { version: 1, alignment: 256, ..Raw::default() };
+    base.push(BLASES, &[0, 7, 0, 0, 300, 1 << 40, 0]);
+    base.push(BLASES, &[1, 4, 1, 0, 10, 77, 3]);
+    base.push(TLASES, &[0, 0, 100, 2, 0]);
+    base.push(TLASES, &[2, 0, 1, 1, 2]);
+    base.push(ENTRIES, &[0, 0, 0]);
+    base.push(PACKAGES, &[0, 2]);
+    for blas in [0, 1] {
+        let mut slot = [0; 16];
+        (slot[slot::PRESENT], slot[slot::BLAS]) = (1, blas);
+        base.push(SLOTS, &slot);
+    }
+    base
+}
+
+/// Every list of up to three actions on the small sheet, at four counters; of up to two after the build where the second Blas
+/// is destroyed or compacted; and the sheet's fields one by one.
+fn actions(list: &mut List, rust: &mut RustSide) {
+    let base = small();
     let kinds = [[1, 0], [2, 0], [3, 0], [4, 0], [2, 1], [3, 1]];
-    for counter in [1, 5, TOP, 0] {
-        for n in 0..=3 {
+    let starts = [(1, 3, 0, 0), (5, 3, 0, 0), (TOP, 3, 0, 0), (0, 3, 0, 0), (5, 2, 0, 1), (5, 2, 3, 0)];
+    for (counter, most, state, destroyed) in starts {
+        for n in 0..=most {
             for k in 0..kinds.len().pow(n) {
                 let mut raw = base.clone();
                 raw.counter = counter;
+                raw.set(BLASES, 1, blas::STATE, state);
+                raw.set(BLASES, 1, blas::DESTROYED, destroyed);
                 // at the outer counters only what ends with a Build or a mark
                 let last = kinds[k % kinds.len()][0];
                 if n == 3 && (counter == 0 || counter == TOP) && last == 2 {
                     continue;
+                }
+                if most == 2 {
+                    raw.push(ACTIONS, &kinds[0]);
                 }
                 let mut k = k;
                 for _ in 0..n {
@@ -133,6 +157,11 @@ fn actions(list: &mut List) {
             }
         }
     }
+    let mut raw = Raw { counter: 5, ..base };
+    for action in [[1, 0], [2, 0], [3, 1], [2, 1], [2, 0]] {
+        raw.push(ACTIONS, &action);
+    }
+    field_by_field(list, rust, &raw);
 }
 
 /// Sections as long as they may be, and one longer: a count above its limit is refused before its records are read, so the
@@ -168,7 +197,7 @@ fn limits(list: &mut List) {
 }
 
 /// What a text says, without its larger numbers.
-fn shape(text: &str) -> Vec<String> {
+pub fn shape(text: &str) -> Vec<String> {
     let kept = |l: &&str| l.starts_with("sheet") || l.starts_with("build") || l.starts_with("submit");
     let word = |w: &str| if w.len() > 2 && w.bytes().all(|b| b.is_ascii_digit()) { "*".to_string() } else { w.to_string() };
     text.lines().filter(kept).map(|l| l.split(' ').map(word).collect::<Vec<_>>().join(" ")).collect()
@@ -193,128 +222,42 @@ fn sheets(rust: &mut RustSide) -> Vec<Vec<u8>> {
             list.take(raw.sheet());
         }
     }
-    actions(&mut list);
+    actions(&mut list, rust);
     limits(&mut list);
     // random ones that answer in a way that isn't there yet, short ones only
-    let mut seen: BTreeMap<Vec<String>, usize> = BTreeMap::new();
-    for sheet in &list.sheets {
-        *seen.entry(shape(rust.text(sheet))).or_default() += 1;
-    }
+    let mut seen: BTreeSet<Vec<String>> = list.sheets.iter().map(|s| shape(rust.text(s))).collect();
     for index in 0..60_000 {
         if let Case::Sheet { bytes, .. } = generate::case(9, index) {
-            if bytes.len() < 1200 && !list.seen.contains(&bytes) {
-                let count = seen.entry(shape(rust.text(&bytes))).or_default();
-                if *count < 1 {
-                    *count += 1;
-                    list.take(bytes);
-                }
+            if bytes.len() < 900 && seen.insert(shape(rust.text(&bytes))) {
+                list.take(bytes);
             }
         }
     }
     list.sheets
 }
 
-/// Submissions in bytes: submission index and counter as u64, Blas and Tlas count as u16, their records, for each Tlas the
-/// number of its listed Blases and then these as u16, the number of action cells as u16 and each as u32, the number of list
-/// cells as u16 and each as u16.
-fn submission_bytes(case: &Case) -> Option<Vec<u8>> {
-    let Case::Submit { indices, blases, tlases, dependency_counts, dependencies, pieces } = case else { return None };
-    let (b, t) = (blases.len() / SIZES[BLASES], tlases.len() / SIZES[TLASES]);
-    let [(actions, lists)] = &pieces[..] else { return None };
-    let whole = blases.len() % SIZES[BLASES] == 0 && tlases.len() % SIZES[TLASES] == 0;
-    if !whole || dependency_counts.len() != t || dependencies.len() != 512 * t || dependency_counts.iter().any(|&n| n > 512) {
-        return None;
-    }
-    let mut out = Vec::new();
-    indices.iter().for_each(|v| out.extend(v.to_le_bytes()));
-    out.extend((b as u16).to_le_bytes());
-    out.extend((t as u16).to_le_bytes());
-    out.extend_from_slice(blases);
-    out.extend_from_slice(tlases);
-    for i in 0..t {
-        let n = dependency_counts[i];
-        out.extend(n.to_le_bytes());
-        dependencies[512 * i..512 * i + n as usize].iter().for_each(|c| out.extend(c.to_le_bytes()));
-    }
-    out.extend((actions.len() as u16).to_le_bytes());
-    actions.iter().for_each(|c| out.extend(c.to_le_bytes()));
-    out.extend((lists.len() as u16).to_le_bytes());
-    lists.iter().for_each(|c| out.extend(c.to_le_bytes()));
-    Some(out)
+/// What is recorded, what is answered, and how many of each there are.
+pub struct Recorded {
+    pub stdin: Vec<u8>,
+    pub stdout: String,
+    pub sheets: usize,
+    pub submissions: usize,
 }
 
-/// The paper's `submit` and `next`, then number and state of each Blas, number and list of each Tlas.
-fn submission_text(case: &Case, rust: &mut RustSide) -> String {
-    let parts = case.run(rust, 0);
-    let of = |name: &str| parts.iter().find(|p| p.name == name).unwrap().values.clone();
-    let (answer, indices) = (of("submit"), of("indices"));
-    let mut text = format!("submit {} {} {} {}\nnext {}\n", answer[0], answer[1], answer[2], answer[3], indices[1]);
-    let bytes = |name: &str| of(name).iter().map(|&v| v as u8).collect::<Vec<u8>>();
-    let Case::Submit { blases, tlases, .. } = case else { unreachable!() };
-    let (b, t) = (bytes("blases"), bytes("tlases"));
-    for (i, r) in b[..blases.len()].chunks_exact(SIZES[BLASES]).enumerate() {
-        text += &format!("blas {i} {} {}\n", number_at(r, 20, 8), r[2]);
-    }
-    let (counts, cells) = (of("dependency_counts"), of("dependencies"));
-    for (i, r) in t[..tlases.len()].chunks_exact(SIZES[TLASES]).enumerate() {
-        let list: String = cells[512 * i..512 * i + counts[i] as usize].iter().map(|c| format!(" {c}")).collect();
-        text += &format!("tlas {i} {}{list}\n", number_at(r, 14, 8));
-    }
-    text
-}
-
-fn submissions(rust: &mut RustSide) -> Vec<Case> {
-    let (mut all, mut seen) = (Vec::new(), BTreeMap::new());
-    for index in 0..60_000 {
-        let mut case = generate::case(11, index);
-        if let Case::Submit { pieces, dependency_counts, dependencies, .. } = &mut case {
-            pieces.truncate(1);
-            // cells past a list are 0: they are not recorded
-            for (t, cells) in dependencies.chunks_mut(512).enumerate() {
-                let n = dependency_counts.get(t).copied().unwrap_or(0);
-                cells.iter_mut().skip(n.into()).for_each(|c| *c = 0);
-            }
-            let short = |b: &Vec<u8>| b.len() < 1000;
-            if submission_bytes(&case).filter(short).is_some() {
-                let answer = shape(&submission_text(&case, rust));
-                let count = seen.entry(answer.clone()).or_insert(0);
-                // an accepted one more often
-                let most = if answer[0] == "submit 0 0 0 0" { 200 } else { 2 };
-                if *count < most {
-                    *count += 1;
-                    all.push(case);
-                }
-            }
-        }
-    }
-    all
-}
-
-/// What is recorded, each after its length as a u32, and the texts in turn; with it how often each answer is there.
-pub fn record(kind: &str) -> Option<(Vec<u8>, String, BTreeMap<String, usize>)> {
+/// The sheets, each after 1 and its length as u32, then the submissions; and the lines of each in turn.
+pub fn record() -> Recorded {
     let mut rust = RustSide::checked();
-    let (mut bytes, mut text, mut numbers) = (Vec::new(), String::new(), BTreeMap::new());
-    let mut add = |record: Vec<u8>, lines: &str| {
-        bytes.extend((record.len() as u32).to_le_bytes());
-        bytes.extend(record);
-        text.push_str(lines);
-        for l in lines.lines().filter(|l| ["sheet", "build", "submit"].iter().any(|w| l.starts_with(w))) {
-            *numbers.entry(l.split(' ').take(2).collect::<Vec<_>>().join(" ")).or_default() += 1;
-        }
-    };
-    match kind {
-        "sheets" => {
-            for sheet in sheets(&mut rust) {
-                let lines = rust.text(&sheet).to_string();
-                add(sheet, &lines);
-            }
-        }
-        "submissions" => {
-            for case in submissions(&mut rust) {
-                add(submission_bytes(&case).unwrap(), &submission_text(&case, &mut rust));
-            }
-        }
-        _ => return None,
+    let (sheets, submissions) = (sheets(&mut rust), submissions(&mut rust));
+    let (mut stdin, mut stdout) = (Vec::new(), String::new());
+    for sheet in &sheets {
+        stdin.extend(1u32.to_le_bytes());
+        stdin.extend((sheet.len() as u32).to_le_bytes());
+        stdin.extend_from_slice(sheet);
+        stdout.push_str(rust.text(sheet));
     }
-    Some((bytes, text, numbers))
+    for case in &submissions {
+        stdin.extend(submission_bytes(case));
+        stdout.push_str(&submission_text(case, &mut rust));
+    }
+    Recorded { stdin, stdout, sheets: sheets.len(), submissions: submissions.len() }
 }
