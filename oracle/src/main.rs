@@ -26,7 +26,7 @@ use side::Side;
 
 fn usage() -> ! {
     eprintln!("usage: oracle sheet < SHEET | batch FILE | compare N [SEED] [reading [FAULT]] | case FILE [reading]");
-    eprintln!("       oracle examples [reading] | faults N | texts N | mutant K SRC DST | record FOLDER | corpus N FOLDER");
+    eprintln!("       oracle examples [reading] | faults N | recorded-faults | texts N | mutant K SRC DST | record FOLDER | corpus N FOLDER");
     exit(2)
 }
 
@@ -124,6 +124,16 @@ fn run() {
             if !missed.is_empty() {
                 exit(1);
             }
+        }
+        // how many of them the recorded list shows
+        Some("recorded-faults") => {
+            let lists = record::lists(&mut rust);
+            let missed: Vec<u32> = (1..=reading::FAULTS).filter(|&fault| !record::shows(&lists, fault)).collect();
+            println!(
+                "the recorded list shows {} of {} faults; not: {missed:?}",
+                reading::FAULTS as usize - missed.len(),
+                reading::FAULTS
+            );
         }
         // inputs of robust.c: N in one file, each after its length, and the first short ones as files
         Some("corpus") => {

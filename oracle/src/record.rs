@@ -5,9 +5,10 @@ use std::collections::BTreeSet;
 
 use crate::generate;
 use crate::layout::*;
+use crate::reading::Reading;
 use crate::record_submissions::{submission_bytes, submission_text, submissions};
-use crate::rust_side::RustSide;
-use crate::side::Case;
+use crate::rust_side::{guarded, RustSide};
+use crate::side::{Case, Side};
 
 pub const TOP: u64 = u64::MAX;
 
@@ -110,6 +111,40 @@ fn field_by_field(list: &mut List, rust: &mut RustSide, base: &Raw) {
     }
 }
 
+/// Two faults at once, which the order of the checks tells apart: of each field one change for each number that it draws from
+/// the build, in the order in which the Rust answers them, and each with the three that follow it.
+fn pairs(list: &mut List, rust: &mut RustSide, base: &Raw) {
+    let with = |changes: &[(usize, usize, u64)]| {
+        let mut raw = base.clone();
+        changes.iter().for_each(|&(s, i, v)| raw.sections[s][i] = v);
+        raw.sheet()
+    };
+    let mut answer = |sheet: &[u8]| rust.text(sheet).lines().next().unwrap_or("").to_string();
+    let mut changes = Vec::new();
+    for s in 0..8 {
+        for i in 0..base.sections[s].len() {
+            let mut drawn = BTreeSet::new();
+            for v in boundaries(WIDTHS[s][i % WIDTHS[s].len()], base.sections[s][i]) {
+                let line = answer(&with(&[(s, i, v)]));
+                let number = line.split(' ').take(2).collect::<Vec<_>>().join(" ");
+                if number.starts_with("build") && number != "build 0" && drawn.insert(number) {
+                    changes.push(((s, i, v), line));
+                }
+            }
+        }
+    }
+    // answered first is what is answered beside most others
+    let mut order: Vec<(usize, usize)> = (0..changes.len())
+        .map(|k| (changes.iter().filter(|(other, _)| answer(&with(&[changes[k].0, *other])) != changes[k].1).count(), k))
+        .collect();
+    order.sort();
+    for at in 0..order.len() {
+        for later in order[at + 1..].iter().take(3) {
+            list.take(with(&[changes[order[at].1].0, changes[later.1].0]));
+        }
+    }
+}
+
 /// A small sheet whose build has one Blas, and a Tlas over it and another.
 fn small() -> Raw {
     let mut base = Raw { version: 1, alignment: 256, ..Raw::default() };
@@ -194,6 +229,18 @@ fn limits(list: &mut List) {
     list.take(full.sheet());
     // a longer one than any that is accepted
     list.take([full.sheet(), vec![0]].concat());
+    // drawn counts whose sum is a u16's only modulo 2^16
+    for (drawing, drawn, count) in [(ENTRIES, GEOMETRIES, entry::COUNT), (PACKAGES, SLOTS, package::COUNT)] {
+        for (first, second) in [(65535, 1), (65535, 2), (65534, 3)] {
+            let mut raw = small();
+            raw.push(drawing, &vec![0; WIDTHS[drawing].len()]);
+            raw.set(drawing, 0, count, first);
+            raw.set(drawing, 1, count, second);
+            let n = (first + second) as usize % 65536;
+            raw.sections[drawn] = vec![0; n * WIDTHS[drawn].len()];
+            list.take(raw.sheet());
+        }
+    }
 }
 
 /// What a text says, without its larger numbers.
@@ -222,13 +269,14 @@ fn sheets(rust: &mut RustSide) -> Vec<Vec<u8>> {
             list.take(raw.sheet());
         }
     }
+    pairs(&mut list, rust, &base);
     actions(&mut list, rust);
     limits(&mut list);
     // random ones that answer in a way that isn't there yet, short ones only
     let mut seen: BTreeSet<Vec<String>> = list.sheets.iter().map(|s| shape(rust.text(s))).collect();
     for index in 0..60_000 {
         if let Case::Sheet { bytes, .. } = generate::case(9, index) {
-            if bytes.len() < 900 && seen.insert(shape(rust.text(&bytes))) {
+            if bytes.len() < 700 && seen.insert(shape(rust.text(&bytes))) {
                 list.take(bytes);
             }
         }
@@ -244,10 +292,14 @@ pub struct Recorded {
     pub submissions: usize,
 }
 
+pub fn lists(rust: &mut RustSide) -> (Vec<Vec<u8>>, Vec<Case>) {
+    (sheets(rust), submissions(rust))
+}
+
 /// The sheets, each after 1 and its length as u32, then the submissions; and the lines of each in turn.
 pub fn record() -> Recorded {
     let mut rust = RustSide::checked();
-    let (sheets, submissions) = (sheets(&mut rust), submissions(&mut rust));
+    let (sheets, submissions) = lists(&mut rust);
     let (mut stdin, mut stdout) = (Vec::new(), String::new());
     for sheet in &sheets {
         stdin.extend(1u32.to_le_bytes());
@@ -260,4 +312,17 @@ pub fn record() -> Recorded {
         stdout.push_str(&submission_text(case, &mut rust));
     }
     Recorded { stdin, stdout, sheets: sheets.len(), submissions: submissions.len() }
+}
+
+/// Whether the list shows a fault of the second reading; a panic shows it too.
+pub fn shows(recorded: &(Vec<Vec<u8>>, Vec<Case>), fault: u32) -> bool {
+    let (mut rust, mut other) = (RustSide::default(), Reading { fault });
+    let mut text = |sheet: &[u8]| {
+        let mut out = vec![0; 1 << 16];
+        let answer = other.report(sheet, &mut out);
+        String::from_utf8_lossy(&out[..answer[1] as usize]).into_owned()
+    };
+    let sheet_shows = |sheet: &Vec<u8>| guarded(|| text(sheet)).as_deref() != Ok(rust.text(sheet));
+    recorded.0.iter().any(sheet_shows)
+        || recorded.1.iter().any(|case| case.run(&mut RustSide::default(), 0) != case.run(&mut Reading { fault }, 0))
 }
