@@ -1,4 +1,4 @@
--- The lines of a build's answer, from what the build left of its outputs, are those of the definition.
+-- The lines of a build's answer and its refusal, from what the build left of its outputs, are those of the definition.
 use Prim.Native.Nat.{ℕ, zero, suc, _+_, _*_, _/_, _≤_, _<_}
 use native.Mathlib.Nat.{zero-add}
 use native.Mathlib.Omega.{arith}
@@ -10,13 +10,15 @@ use lib.Seq.{sets, sets-eq, take-at}
 use Rattle.ray_tracing.specs.declared.Written.{Written}
 use Rattle.ray_tracing.specs.Layout.{size}
 use Rattle.ray_tracing.specs.Plan.{Tables, Outputs, Answer, recorded, nothing-recorded, not-built, recordsIn, planOf, build, leaves, blasScratch, tlasScratch}
-use Rattle.ray_tracing.specs.Report.{actionCells, blasLines, tlasLines, submitLines, answerLines}
+use Rattle.ray_tracing.specs.Report.{actionCells, positions, outcomeOf, outcomeLines, blasLines, tlasLines, submitLines, answerLines}
+use Rattle.ray_tracing.specs.Explain.{outcomeRefusal, submitRefusal, answerRefusal}
 use Rattle.ray_tracing.proofs.Inside.{Inside}
 use Rattle.ray_tracing.proofs.Plan.{offsets-length, staging-length}
 use Rattle.ray_tracing.proofs.PlanLaws.{judged, facts}
 use Rattle.wire.proofs.Laws.{sets-within}
-use Rattle.submit_lines.specs.Parts.{listing, submissionLines}
-use Rattle.report.specs.Parts.{blasLinesOf, tlasLinesOf, answerLinesOf, tableLines}
+use Rattle.submit_lines.specs.Parts.{listing, submissionOutcome, submissionLines}
+use Rattle.submit_lines.specs.Refused.{submissionRefusal}
+use Rattle.report.specs.Parts.{blasLinesOf, tlasLinesOf, answerLinesOf, answerRefusalOf, tableLines, tableRefusal}
 use Rattle.report.proofs.Room.{Roomy, build-with-room, lists-room}
 
 -- ---- what is written, read back
@@ -57,12 +59,18 @@ unfolding actionCells
 cells-are x r a i zero = refl
 cells-are x r a i (suc n) = rw (cells-are x r a (i + 1) n)
 
-submit-lines-are :
-    (counter : ℕ) (x : Tables) (r : Bool) (a l : List ℕ)
-    → l ≡ cond r (planOf x .lists) []
-    → submissionLines counter (x .blases) (x .tlases) (x .entries) (x .packages) r a l ≡ submitLines counter x r a
-unfolding submissionLines submitLines
-submit-lines-are counter x r a l e = rw (e, cells-are x r a 0 (length a / size 9))
+module _ (counter : ℕ) (x : Tables) (r : Bool) (a l : List ℕ) (e : l ≡ cond r (planOf x .lists) []) where
+  outcome-is : submissionOutcome counter (x .blases) (x .tlases) (x .entries) (x .packages) r a l ≡ outcomeOf counter x r a
+  unfolding submissionOutcome
+  outcome-is = rw (e, cells-are x r a 0 (length a / size 9))
+
+  submit-lines-are : submissionLines counter (x .blases) (x .tlases) (x .entries) (x .packages) r a l ≡ submitLines counter x r a
+  unfolding submissionLines submitLines
+  submit-lines-are = ap (outcomeLines (positions r a 0 (length a / size 9))) outcome-is
+
+  submit-refusal-is : submissionRefusal counter (x .blases) (x .tlases) (x .entries) (x .packages) r a l ≡ submitRefusal counter x r a
+  unfolding submissionRefusal submitRefusal
+  submit-refusal-is = ap (outcomeRefusal a (positions r a 0 (length a / size 9))) outcome-is
 
 -- ---- the answer
 
@@ -140,6 +148,16 @@ module _ (counter : ℕ) (x : Tables) (o : Outputs) (a : List ℕ) (room : Roomy
       )
       (simp append-assoc)
 
+  refusal-is :
+      (v : Answer)
+      → build x o ≡ v
+      → answerRefusalOf counter (x .blases) (x .tlases) (x .entries) (x .packages) a (leaves v (planOf x) o .lists) v
+      ≡ answerRefusal counter x a v
+  refusal-is (not-built e f c) h = refl
+  refusal-is (nothing-recorded n) h = submit-refusal-is counter x false a [] refl
+  refusal-is (recorded n w) h =
+      submit-refusal-is counter x true a (take (w .lists) (sets (o .lists) 0 (planOf x .lists))) (lists-are n w h)
+
   -- the code's answer v, and the outputs q that it left
   pub built-lines :
       {v : Answer} {q : Outputs}
@@ -149,3 +167,11 @@ module _ (counter : ℕ) (x : Tables) (o : Outputs) (a : List ℕ) (room : Roomy
       ≡ tableLines counter x a
   unfolding tableLines
   built-lines e f = rw (e, f, ← build-with-room x o room) (lines-are (build x o) refl)
+
+  pub built-refusal :
+      {v : Answer} {q : Outputs}
+      → v ≡ build x o
+      → q ≡ leaves (build x o) (planOf x) o
+      → answerRefusalOf counter (x .blases) (x .tlases) (x .entries) (x .packages) a (q .lists) v ≡ tableRefusal counter x a
+  unfolding tableRefusal
+  built-refusal e f = rw (e, f, ← build-with-room x o room) (refusal-is (build x o) refl)

@@ -11,10 +11,11 @@ use Rattle.ray_tracing.specs.Layout.{layout, size}
 use Rattle.ray_tracing.specs.Reading.{sectionOf, sheetOf, accepted, readSheet}
 use Rattle.ray_tracing.specs.Writing.{table}
 use Rattle.ray_tracing.specs.Report.{builtLines}
+use Rattle.ray_tracing.specs.Explain.{builtRefusal}
 use Rattle.ray_tracing.proofs.Inside.{tablesOf}
 use Rattle.ray_tracing.proofs.Sheets.{Lent, lent-tells, table-section, accepted-is, accepted-whole, accepted-lent}
 use Rattle.submit_lines.specs.Parts.{Lendable}
-use Rattle.report.specs.Parts.{tableLines}
+use Rattle.report.specs.Parts.{tableLines, tableRefusal}
 
 module _ (s : List ℕ) (x : Sheet) (e : readSheet s ≡ accepted x) where
   -- the section after section k, as the sheet's field f tells it
@@ -51,17 +52,24 @@ module _ (s : List ℕ) (x : Sheet) (e : readSheet s ≡ accepted x) where
         few-actions = lent 8 (lit< tt) .few;
       })
 
-pub accepted-lines :
-    (s : List ℕ) (x : Sheet) {t1 t2 t3 t4 t5 t6 t7 t8 t9 : List ℕ}
-    → t1 ≡ table s 1
-    → t2 ≡ table s 2
-    → t3 ≡ table s 3
-    → t4 ≡ table s 4
-    → t5 ≡ table s 5
-    → t6 ≡ table s 6
-    → t7 ≡ table s 7
-    → t8 ≡ table s 8
-    → t9 ≡ table s 9
-    → tableLines (x .counter) (tablesOf (x .alignment) t1 t2 t3 t4 t5 t6 t7 t8) t9 ≡ builtLines s x
-unfolding tableLines builtLines
-accepted-lines s x a b c d e f g h i = rw (a, b, c, d, e, f, g, h, i)
+module _
+    (s : List ℕ)
+    (x : Sheet)
+    {t1 t2 t3 t4 t5 t6 t7 t8 t9 : List ℕ}
+    (a : t1 ≡ table s 1)
+    (b : t2 ≡ table s 2)
+    (c : t3 ≡ table s 3)
+    (d : t4 ≡ table s 4)
+    (e : t5 ≡ table s 5)
+    (f : t6 ≡ table s 6)
+    (g : t7 ≡ table s 7)
+    (h : t8 ≡ table s 8)
+    (i : t9 ≡ table s 9)
+  where
+    pub accepted-lines : tableLines (x .counter) (tablesOf (x .alignment) t1 t2 t3 t4 t5 t6 t7 t8) t9 ≡ builtLines s x
+    unfolding tableLines builtLines
+    accepted-lines = rw (a, b, c, d, e, f, g, h, i)
+
+    pub accepted-refusal : tableRefusal (x .counter) (tablesOf (x .alignment) t1 t2 t3 t4 t5 t6 t7 t8) t9 ≡ builtRefusal s x
+    unfolding tableRefusal builtRefusal
+    accepted-refusal = rw (a, b, c, d, e, f, g, h, i)

@@ -8,7 +8,9 @@ use Rattle.ray_tracing.specs.Records.{entryAt, packageAt}
 use Rattle.ray_tracing.specs.Causes.{bare}
 use Rattle.ray_tracing.specs.Plan.{Tables, Outputs, Answer, recorded, nothing-recorded, not-built, planOf, build}
 use Rattle.ray_tracing.specs.Report.{line, word-scratch, word-blas, word-tlas, buildLine, answerLines}
+use Rattle.ray_tracing.specs.Explain.{Refusal, of-build, answerRefusal}
 use Rattle.submit_lines.specs.Parts.{entriesIn, packagesIn, submissionLines}
+use Rattle.submit_lines.specs.Refused.{submissionRefusal}
 
 -- `blasLines` with the entries as bytes and the offsets as cells
 abbrev pub blasLine : List ℕ → List ℕ → ℕ → List ℕ
@@ -46,6 +48,18 @@ answerLinesOf counter blases tlases entries packages actions blas-offsets tlas-o
     planLines size entries packages blas-offsets tlas-offsets staging-ranges
     ++ submissionLines counter blases tlases entries packages true actions (take (w .lists) lists)
 
+-- `answerRefusal` with what the build left of its lists
+abbrev pub answerRefusalOf : ℕ → List ℕ → List ℕ → List ℕ → List ℕ → List ℕ → List ℕ → Answer → Refusal
+answerRefusalOf counter blases tlases entries packages actions lists (not-built e f c) = of-build e f c
+answerRefusalOf counter blases tlases entries packages actions lists (nothing-recorded n) =
+    submissionRefusal counter blases tlases entries packages false actions []
+answerRefusalOf counter blases tlases entries packages actions lists (recorded size w) =
+    submissionRefusal counter blases tlases entries packages true actions (take (w .lists) lists)
+
 -- the lines of tables that are built, and of actions
 unfoldable pub tableLines : ℕ → Tables → List ℕ → List ℕ
 tableLines counter x actions = answerLines counter x actions (build x (planOf x))
+
+-- and what they refuse
+unfoldable pub tableRefusal : ℕ → Tables → List ℕ → Refusal
+tableRefusal counter x actions = answerRefusal counter x actions (build x (planOf x))

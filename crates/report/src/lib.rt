@@ -8,6 +8,8 @@ use ray_tracing::Section;
 use ray_tracing::Sheet;
 use ray_tracing::SheetRead;
 use sheet::read_sheet;
+use submit_lines::Printed;
+use submit_lines::Refusal;
 use submit_lines::put_submission;
 use text::put;
 use text::put_line;
@@ -21,10 +23,12 @@ ghost use Rattle.ray_tracing.specs.Reading.{accepted, readSheet};
 ghost use Rattle.ray_tracing.specs.Plan.{answerOf, recorded};
 ghost use Rattle.ray_tracing.specs.Report as Report;
 ghost use Rattle.ray_tracing.specs.Report.{buildLine, builtLines, longestReport, reportedOf, reportRule, reportBytes};
+ghost use Rattle.ray_tracing.specs.Explain.{builtRefusal, refusalIn};
 ghost use Rattle.ray_tracing.proofs.Inside.{tablesOf};
 ghost use Rattle.text.specs.Put.{Put};
 ghost use Rattle.submit_lines.specs.Parts.{entriesIn, packagesIn, Lendable};
-ghost use Rattle.report.specs.Parts.{blasLine, blasLinesOf, tlasLine, tlasLinesOf, planLines, answerLinesOf, tableLines};
+ghost use Rattle.submit_lines.specs.Refused.{refusalOf};
+ghost use Rattle.report.specs.Parts.{blasLine, blasLinesOf, tlasLine, tlasLinesOf, planLines, answerLinesOf, answerRefusalOf, tableLines, tableRefusal};
 
 // The line of entry i.
 fn put_blas_line(entries: &[u8], offsets: &[u64], i: usize, out: &mut [u8], at: usize) -> usize
@@ -143,16 +147,21 @@ fn put_answer(
     staging_ranges: &[u64],
     lists: &[u16],
     out: &mut [u8],
-) -> usize
+) -> Printed
     requires { ⌜ Lendable (now blases) (now tlases) (now entries) (now packages) (now actions) × (6134 ≤ length (now out)) ⌝ }
     requires { ⌜ (64 ≤ length (now «blas_offsets»)) × ((32 ≤ length (now «tlas_offsets»)) × (64 ≤ length (now «staging_ranges»))) ⌝ }
     requires { ⌜ ((n : ℕ) (w : Written) → answerOf built ≡ recorded n w → w .lists ≤ length (now lists)) ⌝ }
-    ensures { λ r. ⌜ Put (now (out .entry)) 0 (answerLinesOf counter (now (blases .entry)) (now (tlases .entry)) (now (entries .entry)) (now (packages .entry)) (now (actions .entry)) (now («blas_offsets» .entry)) (now («tlas_offsets» .entry)) (now («staging_ranges» .entry)) (now (lists .entry)) (answerOf built)) r (now (out .exit)) ⌝ }
+    ensures { λ r. ⌜ Put (now (out .entry)) 0 (answerLinesOf counter (now (blases .entry)) (now (tlases .entry)) (now (entries .entry)) (now (packages .entry)) (now (actions .entry)) (now («blas_offsets» .entry)) (now («tlas_offsets» .entry)) (now («staging_ranges» .entry)) (now (lists .entry)) (answerOf built)) (r .end) (now (out .exit)) ⌝ }
+    ensures { λ r. ⌜ refusalOf (r .refusal) ≡ answerRefusalOf counter (now (blases .entry)) (now (tlases .entry)) (now (entries .entry)) (now (packages .entry)) (now (actions .entry)) (now (lists .entry)) (answerOf built) ⌝ }
 {
     match built {
         Built::Refused(error, e, g) => {
             let f = build_figures(error);
-            put_build_line(out, f.number, e, g, f.first, f.second, f.third)
+            let end = put_build_line(out, f.number, e, g, f.first, f.second, f.third);
+            Printed {
+                end,
+                refusal: Refusal::Build(error, e, g),
+            }
         }
         Built::NothingRecorded(_) => {
             let end = put_build_line(out, 0, 0, 0, 0, 0, 0);
@@ -210,9 +219,10 @@ fn put_built(
     slots: &[u8],
     actions: &[u8],
     out: &mut [u8],
-) -> usize
+) -> Printed
     requires { ⌜ Lendable (now blases) (now tlases) (now entries) (now packages) (now actions) × (6134 ≤ length (now out)) ⌝ }
-    ensures { λ r. ⌜ Put (now (out .entry)) 0 (tableLines counter (tablesOf alignment (now (buffers .entry)) (now (blases .entry)) (now (declared .entry)) (now (tlases .entry)) (now (entries .entry)) (now (geometries .entry)) (now (packages .entry)) (now (slots .entry))) (now (actions .entry))) r (now (out .exit)) ⌝ }
+    ensures { λ r. ⌜ Put (now (out .entry)) 0 (tableLines counter (tablesOf alignment (now (buffers .entry)) (now (blases .entry)) (now (declared .entry)) (now (tlases .entry)) (now (entries .entry)) (now (geometries .entry)) (now (packages .entry)) (now (slots .entry))) (now (actions .entry))) (r .end) (now (out .exit)) ⌝ }
+    ensures { λ r. ⌜ refusalOf (r .refusal) ≡ tableRefusal counter (tablesOf alignment (now (buffers .entry)) (now (blases .entry)) (now (declared .entry)) (now (tlases .entry)) (now (entries .entry)) (now (geometries .entry)) (now (packages .entry)) (now (slots .entry))) (now (actions .entry)) ⌝ }
 {
     let mut blas_offsets = [0u64; 64];
     let mut tlas_offsets = [0u64; 32];
@@ -265,9 +275,10 @@ fn part(sheet: &[u8], s: Section, size: usize) -> &[u8]
     &sheet[start..end]
 }
 
-fn put_accepted(sheet: &[u8], x: Sheet, out: &mut [u8]) -> usize
+fn put_accepted(sheet: &[u8], x: Sheet, out: &mut [u8]) -> Printed
     requires { ⌜ (readSheet (now sheet) ≡ accepted x) × (6134 ≤ length (now out)) ⌝ }
-    ensures { λ r. ⌜ Put (now (out .entry)) 0 (builtLines (now (sheet .entry)) x) r (now (out .exit)) ⌝ }
+    ensures { λ r. ⌜ Put (now (out .entry)) 0 (builtLines (now (sheet .entry)) x) (r .end) (now (out .exit)) ⌝ }
+    ensures { λ r. ⌜ refusalOf (r .refusal) ≡ builtRefusal (now (sheet .entry)) x ⌝ }
 {
     let buffers = part(sheet, x.buffers, 9);
     let blases = part(sheet, x.blases, 28);
@@ -294,16 +305,21 @@ fn put_accepted(sheet: &[u8], x: Sheet, out: &mut [u8]) -> usize
     )
 }
 
-// The lines of a sheet, into bytes that any of them fits.
-pub fn put_report(sheet: &[u8], out: &mut [u8]) -> usize
+// The lines of a sheet, into bytes that any of them fits, and what they refuse.
+pub fn put_report(sheet: &[u8], out: &mut [u8]) -> Printed
     requires { ⌜ longestReport ≤ length (now out) ⌝ }
-    ensures { λ r. ⌜ Put (now (out .entry)) 0 (Report.report (now (sheet .entry))) r (now (out .exit)) ⌝ }
+    ensures { λ r. ⌜ Put (now (out .entry)) 0 (Report.report (now (sheet .entry))) (r .end) (now (out .exit)) ⌝ }
+    ensures { λ r. ⌜ refusalOf (r .refusal) ≡ refusalIn (now (sheet .entry)) ⌝ }
 {
     match read_sheet(sheet) {
         SheetRead::Accepted(x) => put_accepted(sheet, x, out),
         SheetRead::Refused(e, place) => {
             let numbers = [sheet_number(e), place as u64];
-            put_line(out, 0, b"sheet", &numbers)
+            let end = put_line(out, 0, b"sheet", &numbers);
+            Printed {
+                end,
+                refusal: Refusal::Sheet(e, place),
+            }
         }
     }
 }
@@ -314,7 +330,8 @@ pub fn report(sheet: &[u8], out: &mut [u8]) -> Reported
     ensures { λ _. ⌜ now (out .exit) ≡ reportBytes (now (sheet .entry)) (now (out .entry)) ⌝ }
 {
     let mut text = [0u8; 6134];
-    let n = put_report(sheet, &mut text);
+    let printed = put_report(sheet, &mut text);
+    let n = printed.end;
     if out.len() < n {
         return Reported::TooShort;
     }

@@ -17,10 +17,12 @@ use Rattle.text.specs.Put.{Put}
 use Rattle.text.proofs.Laws.{put-nothing}
 use Rattle.ray_tracing.proofs.Plan.{left-more, left-none}
 use Rattle.ray_tracing.specs.declared.Submitted.{Submitted}
-use Rattle.ray_tracing.specs.Submission.{decode, submission}
+use Rattle.ray_tracing.specs.Submission.{Lent, Answer, accepted, refused, _leaving_, decode, submission}
+use Rattle.ray_tracing.specs.Explain.{outcomeRefusal}
 use Rattle.actions.specs.Outcome.{lentOf, answerOf, counterOf, outcomeOf}
 use Rattle.submission.specs.Numbers.{pieceOf}
-use Rattle.submit_lines.specs.Parts.{actionsIn, listing, kindOf, keptCells, submissionLines}
+use Rattle.submit_lines.specs.Parts.{actionsIn, listing, kindOf, keptCells, submissionOutcome, submissionLines}
+use Rattle.submit_lines.specs.Refused.{answerRefused, submissionRefusal}
 
 pub not-one : (b : Bool) → not b ≡ cond b false true
 not-one true = refl
@@ -112,17 +114,42 @@ zeros (suc n) zero h = absurd (not-suc-le-zero h)
 zeros (suc n) (suc m) h = ap (λ (l : List ℕ). 0 ∷ l) (zeros n m (le-of-suc-le-suc h))
 
 -- the submission s of copies b and t, empty lists c and d, and cells l
-pub submission-is :
-    (counter : ℕ) (blases tlases entries packages : List ℕ) (recorded : Bool) (actions lists : List ℕ) (s : Submitted)
+module _
+    (counter : ℕ)
+    (blases tlases entries packages : List ℕ)
+    (recorded : Bool)
+    (actions lists : List ℕ)
+    (s : Submitted)
     {b t c d l after-b after-t after-c after-d : List ℕ}
-    → outcomeOf s after-b after-t after-c after-d ≡ submission (lentOf counter b t c d) (decode (pieceOf l lists))
-    → b ≡ blases
-    → t ≡ tlases
-    → c ≡ replicate (length tlases / 22) 0
-    → d ≡ replicate (length tlases / 22 * 512) 0
-    → l ≡ actionCells (listing entries packages) recorded actions 0 (actionsIn actions)
-    → (line word-submit (submitNumbers (positions recorded actions 0 (actionsIn actions)) (answerOf s)) ++ line word-next (counterOf s ∷ []))
-    ≡ submissionLines counter blases tlases entries packages recorded actions lists
-unfolding submissionLines
-submission-is counter blases tlases entries packages recorded actions lists s o e f g h k =
-    ap (outcomeLines (positions recorded actions 0 (actionsIn actions))) (rw (e, f, g, h, k) at o)
+    (o : outcomeOf s after-b after-t after-c after-d ≡ submission (lentOf counter b t c d) (decode (pieceOf l lists)))
+    (e : b ≡ blases)
+    (f : t ≡ tlases)
+    (g : c ≡ replicate (length tlases / 22) 0)
+    (h : d ≡ replicate (length tlases / 22 * 512) 0)
+    (k : l ≡ actionCells (listing entries packages) recorded actions 0 (actionsIn actions))
+  where
+    outcome-is :
+        outcomeOf s after-b after-t after-c after-d ≡ submissionOutcome counter blases tlases entries packages recorded actions lists
+    unfolding submissionOutcome
+    outcome-is = rw (e, f, g, h, k) at o
+
+    pub lines-are :
+        (line word-submit (submitNumbers (positions recorded actions 0 (actionsIn actions)) (answerOf s)) ++ line word-next (counterOf s ∷ []))
+        ≡ submissionLines counter blases tlases entries packages recorded actions lists
+    unfolding submissionLines
+    lines-are = ap (outcomeLines (positions recorded actions 0 (actionsIn actions))) outcome-is
+
+    pub refusal-is :
+        answerRefused actions (positions recorded actions 0 (actionsIn actions)) (answerOf s)
+        ≡ submissionRefusal counter blases tlases entries packages recorded actions lists
+    unfolding submissionRefusal
+    refusal-is =
+        answered (answerOf s) (lentOf (counterOf s) after-b after-t after-c after-d)
+        ∙ ap (outcomeRefusal actions (positions recorded actions 0 (actionsIn actions))) outcome-is
+      where
+        answered :
+            (v : Answer) (left : Lent)
+            → answerRefused actions (positions recorded actions 0 (actionsIn actions)) v
+            ≡ outcomeRefusal actions (positions recorded actions 0 (actionsIn actions)) (v leaving left)
+        answered accepted left = refl
+        answered (refused i cause) left = refl

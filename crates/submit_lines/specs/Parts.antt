@@ -6,7 +6,7 @@ use lib.ListN.{length, replicate}
 use Rattle.ray_tracing.specs.Layout.{size}
 use Rattle.ray_tracing.specs.Records.{fieldAt}
 use Rattle.ray_tracing.specs.Plan.{Tables}
-use Rattle.ray_tracing.specs.Submission.{mostDependencies, decode, submission}
+use Rattle.ray_tracing.specs.Submission.{Outcome, mostDependencies, decode, submission}
 use Rattle.ray_tracing.specs.Report.{kept, cellsOf, actionCells, positions, outcomeLines}
 use Rattle.actions.specs.Outcome.{lentOf}
 use Rattle.submission.specs.Numbers.{pieceOf}
@@ -45,15 +45,20 @@ abbrev pub keptCells : Tables → Bool → List ℕ → ℕ → List ℕ
 keptCells x recorded actions i =
     cond (kept recorded (kindOf actions i)) (cellsOf x (kindOf actions i) (fieldAt 9 actions (i * size 9) 1)) []
 
+-- `outcomeOf` with the Build's lists as cells
+unfoldable pub submissionOutcome : ℕ → List ℕ → List ℕ → List ℕ → List ℕ → Bool → List ℕ → List ℕ → Outcome
+submissionOutcome counter blases tlases entries packages recorded actions lists =
+    submission
+    (lentOf counter blases tlases
+    (replicate (length tlases / size 4) 0)
+    (replicate (length tlases / size 4 * mostDependencies) 0))
+    (decode (pieceOf (actionCells (listing entries packages) recorded actions 0 (actionsIn actions)) lists))
+
 -- `submitLines` with the Build's lists as cells
 unfoldable pub submissionLines : ℕ → List ℕ → List ℕ → List ℕ → List ℕ → Bool → List ℕ → List ℕ → List ℕ
 submissionLines counter blases tlases entries packages recorded actions lists =
     outcomeLines (positions recorded actions 0 (actionsIn actions))
-    (submission
-    (lentOf counter blases tlases
-    (replicate (length tlases / size 4) 0)
-    (replicate (length tlases / size 4 * mostDependencies) 0))
-    (decode (pieceOf (actionCells (listing entries packages) recorded actions 0 (actionsIn actions)) lists)))
+    (submissionOutcome counter blases tlases entries packages recorded actions lists)
 
 -- no more of each than a sheet may have
 pub record Lendable (blases tlases entries packages actions : List ℕ) : Type 0 where

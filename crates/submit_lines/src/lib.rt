@@ -1,6 +1,9 @@
 // The lines `submit` and `next`: a sheet's actions, submitted.
 use causes::submission_figures;
+use ray_tracing::BuildAccelerationStructureError;
+use ray_tracing::SheetError;
 use ray_tracing::Submitted;
+use ray_tracing::ValidateAsActionsError;
 use ray_tracing::either;
 use submission::submit;
 use text::put;
@@ -16,6 +19,21 @@ ghost use Rattle.ray_tracing.specs.Report.{line, word-submit, word-next, kept, 
 ghost use Rattle.actions.specs.Outcome.{answerOf, counterOf};
 ghost use Rattle.text.specs.Put.{Put};
 ghost use Rattle.submit_lines.specs.Parts.{entriesIn, packagesIn, actionsIn, listing, kindOf, keptCells, Lendable, submissionLines};
+ghost use Rattle.submit_lines.specs.Refused.{refusalOf, answerRefused, submissionRefusal};
+
+// What a report tells of a refusal; it tells at most one. An action has its position in the sheet and its kind.
+pub enum Refusal {
+    Nothing,
+    Sheet(SheetError, usize),
+    Build(BuildAccelerationStructureError, usize, usize),
+    Action(ValidateAsActionsError, usize, u8),
+}
+
+// Where the text ends, and what it refuses.
+pub struct Printed {
+    pub end: usize,
+    pub refusal: Refusal,
+}
 
 // With nothing recorded kind 1, the recorded build, is passed over.
 fn is_kept(recorded: bool, kind: u8) -> bool
@@ -116,6 +134,16 @@ fn position_of(recorded: bool, actions: &[u8], k: usize) -> usize
     0
 }
 
+// The kind of action i, of which the first byte may be all there is; 0 where there is none.
+fn kind_at(actions: &[u8], i: usize) -> u8
+    ensures { λ r. ⌜ r ≡ kindOf (now (actions .entry)) i ⌝ }
+{
+    if i < (actions.len() + 2) / 3 {
+        return u8_at(actions, i * 3);
+    }
+    0
+}
+
 fn put_outcome(
     out: &mut [u8],
     at: usize,
@@ -141,16 +169,28 @@ fn put_submitted(
     submitted: Submitted,
     out: &mut [u8],
     at: usize,
-) -> usize
+) -> Printed
     requires { ⌜ at + 117 ≤ length (now out) ⌝ }
-    ensures { λ r. ⌜ Put (now (out .entry)) at (line word-submit (submitNumbers (positions recorded (now (actions .entry)) 0 (actionsIn (now (actions .entry)))) (answerOf submitted)) ++ line word-next (counterOf submitted ∷ [])) r (now (out .exit)) ⌝ }
+    ensures { λ r. ⌜ Put (now (out .entry)) at (line word-submit (submitNumbers (positions recorded (now (actions .entry)) 0 (actionsIn (now (actions .entry)))) (answerOf submitted)) ++ line word-next (counterOf submitted ∷ [])) (r .end) (now (out .exit)) ⌝ }
+    ensures { λ r. ⌜ refusalOf (r .refusal) ≡ answerRefused (now (actions .entry)) (positions recorded (now (actions .entry)) 0 (actionsIn (now (actions .entry)))) (answerOf submitted) ⌝ }
 {
     match submitted {
-        Submitted::Accepted(counter) => put_outcome(out, at, 0, 0, 0, 0, counter),
+        Submitted::Accepted(counter) => {
+            let end = put_outcome(out, at, 0, 0, 0, 0, counter);
+            Printed {
+                end,
+                refusal: Refusal::Nothing,
+            }
+        }
         Submitted::Refused(e, i, counter) => {
             let f = submission_figures(e);
-            let action = position_of(recorded, actions, i) as u64;
-            put_outcome(out, at, f.number, action, f.first, f.second, counter)
+            let action = position_of(recorded, actions, i);
+            let kind = kind_at(actions, action);
+            let end = put_outcome(out, at, f.number, action as u64, f.first, f.second, counter);
+            Printed {
+                end,
+                refusal: Refusal::Action(e, action, kind),
+            }
         }
     }
 }
@@ -167,9 +207,10 @@ pub fn put_submission(
     lists: &[u16],
     out: &mut [u8],
     at: usize,
-) -> usize
+) -> Printed
     requires { ⌜ Lendable (now blases) (now tlases) (now entries) (now packages) (now actions) × (at + 117 ≤ length (now out)) ⌝ }
-    ensures { λ r. ⌜ Put (now (out .entry)) at (submissionLines counter (now (blases .entry)) (now (tlases .entry)) (now (entries .entry)) (now (packages .entry)) recorded (now (actions .entry)) (now (lists .entry))) r (now (out .exit)) ⌝ }
+    ensures { λ r. ⌜ Put (now (out .entry)) at (submissionLines counter (now (blases .entry)) (now (tlases .entry)) (now (entries .entry)) (now (packages .entry)) recorded (now (actions .entry)) (now (lists .entry))) (r .end) (now (out .exit)) ⌝ }
+    ensures { λ r. ⌜ refusalOf (r .refusal) ≡ submissionRefusal counter (now (blases .entry)) (now (tlases .entry)) (now (entries .entry)) (now (packages .entry)) recorded (now (actions .entry)) (now (lists .entry)) ⌝ }
 {
     let mut lent_blases = [0u8; 3584];
     let mut lent_tlases = [0u8; 704];

@@ -8,7 +8,7 @@ use Rattle.ray_tracing.specs.declared.Sheet.{Sheet}
 use Rattle.ray_tracing.specs.Layout.{size}
 use Rattle.ray_tracing.specs.Reading.{sectionOf, sheetOf}
 use Rattle.ray_tracing.specs.Writing.{table}
-use Rattle.report.proofs.Sections.{part-inside, part-is, parts-lendable, accepted-lines}
+use Rattle.report.proofs.Sections.{part-inside, part-is, parts-lendable, accepted-lines, accepted-refusal}
 use borrow.Author.Needs.{needs}
 use Rattle.report.proofs.put_accepted.Statement.{statement}
 use Rattle.report.proofs.put_accepted.Tie as tie
@@ -81,16 +81,19 @@ returns c =
     let p2 = p3 .before in
     let p1 = p2 .before in
     let start = p1 .before .before .before in
-    rw (accepted-lines (start .args .sheet .now) (start .args .x)
-    (p1 .part .ensures ∙ same start 0 (lit< tt) (λ (x : Sheet). x .buffers) refl)
-    (p2 .part2 .ensures ∙ same start 1 (lit< tt) (λ (x : Sheet). x .blases) refl)
-    (p3 .part3 .ensures ∙ same start 2 (lit< tt) (λ (x : Sheet). x .declared) refl)
-    (p4 .part4 .ensures ∙ same start 3 (lit< tt) (λ (x : Sheet). x .tlases) refl)
-    (p5 .part5 .ensures ∙ same start 4 (lit< tt) (λ (x : Sheet). x .entries) refl)
-    (p6 .part6 .ensures ∙ same start 5 (lit< tt) (λ (x : Sheet). x .geometries) refl)
-    (p7 .part7 .ensures ∙ same start 6 (lit< tt) (λ (x : Sheet). x .packages) refl)
-    (p8 .part8 .ensures ∙ same start 7 (lit< tt) (λ (x : Sheet). x .slots) refl)
-    (p9 .part9 .ensures ∙ same start 8 (lit< tt) (λ (x : Sheet). x .actions) refl)) at (c .before .before .put-built .ensures)
+    let t1 = p1 .part .ensures ∙ same start 0 (lit< tt) (λ (x : Sheet). x .buffers) refl in
+    let t2 = p2 .part2 .ensures ∙ same start 1 (lit< tt) (λ (x : Sheet). x .blases) refl in
+    let t3 = p3 .part3 .ensures ∙ same start 2 (lit< tt) (λ (x : Sheet). x .declared) refl in
+    let t4 = p4 .part4 .ensures ∙ same start 3 (lit< tt) (λ (x : Sheet). x .tlases) refl in
+    let t5 = p5 .part5 .ensures ∙ same start 4 (lit< tt) (λ (x : Sheet). x .entries) refl in
+    let t6 = p6 .part6 .ensures ∙ same start 5 (lit< tt) (λ (x : Sheet). x .geometries) refl in
+    let t7 = p7 .part7 .ensures ∙ same start 6 (lit< tt) (λ (x : Sheet). x .packages) refl in
+    let t8 = p8 .part8 .ensures ∙ same start 7 (lit< tt) (λ (x : Sheet). x .slots) refl in
+    let t9 = p9 .part9 .ensures ∙ same start 8 (lit< tt) (λ (x : Sheet). x .actions) refl in
+    let put = c .before .before .put-built .ensures in (
+      rw (accepted-lines (start .args .sheet .now) (start .args .x) t1 t2 t3 t4 t5 t6 t7 t8 t9) at (put .0),
+      put .1 ∙ accepted-refusal (start .args .sheet .now) (start .args .x) t1 t2 t3 t4 t5 t6 t7 t8 t9,
+    )
 
 pub put-accepted-spec : {M : Type 1} → statement M
 put-accepted-spec =

@@ -23,21 +23,21 @@ returns c =
     let put = c .before .before in
     let figures = put .before .before in
     let case = figures .before .before in
-    rw (case .built .given .1, ← figures .build-figures .ensures) (put .put-build-line .ensures)
+    (rw (case .built .given .1, ← figures .build-figures .ensures) (put .put-build-line .ensures), rw (case .built .given .1))
 
 returns-2 : tie.Need-returns-2
 returns-2 c =
     let submitted = c .before .before in
     let put = submitted .before .before .before .before .before in
     let case = put .before .before in
-    rw (case .enum-told .given .1) (put-then (put .put-build-line2 .ensures) (submitted .put-submission .ensures))
+    (rw (case .enum-told .given .1) (put-then (put .put-build-line2 .ensures) (submitted .put-submission .ensures .0)), rw (case .enum-told .given .1) (submitted .put-submission .ensures .1))
 
 returns-3 : tie.Need-returns-3
 returns-3 c =
     let submitted = c .before .before in
     let put = submitted .before .before .before .before .before in
     let case = put .before .before .before in
-    rw (case .built2 .given .1) (put-then (put .put-plan .ensures .0) (submitted .put-submission2 .ensures))
+    (rw (case .built2 .given .1) (put-then (put .put-plan .ensures .0) (submitted .put-submission2 .ensures .0)), rw (case .built2 .given .1) (submitted .put-submission2 .ensures .1))
 
 pub put-answer-spec : {M : Type 1} → statement M
 put-answer-spec =

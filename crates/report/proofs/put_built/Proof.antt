@@ -3,7 +3,7 @@ use native.Mathlib.Omega.{arith}
 use mathlib.Core.Path.{sym, _∙_}
 use Rattle.ray_tracing.proofs.Inside.{tablesOf}
 use Rattle.report.proofs.Room.{rooms, roomy}
-use Rattle.report.proofs.Answers.{lists-fit, built-lines}
+use Rattle.report.proofs.Answers.{lists-fit, built-lines, built-refusal}
 use borrow.Author.Needs.{needs}
 use Rattle.report.proofs.put_built.Statement.{statement}
 use Rattle.report.proofs.put_built.Tie as tie
@@ -26,7 +26,10 @@ returns c =
     let a = start .args in
     let x = tablesOf (a .alignment) (a .buffers .now) (a .blases .now) (a .declared .now) (a .tlases .now) (a .entries .now) (a .geometries .now) (a .packages .now) (a .slots .now) in
     let built = c .before .before .before .before .before .before .before .before .before .before .before .before .before .before .before .build-acceleration-structures in
-    rw (built-lines (a .counter) x rooms (a .actions .now) roomy (built .ensures .0) (built .ensures .1)) at (c .before .before .put-answer .ensures)
+    let put = c .before .before .put-answer .ensures in (
+      rw (built-lines (a .counter) x rooms (a .actions .now) roomy (built .ensures .0) (built .ensures .1)) at (put .0),
+      put .1 ∙ built-refusal (a .counter) x rooms (a .actions .now) roomy (built .ensures .0) (built .ensures .1),
+    )
 
 pub put-built-spec : {M : Type 1} → statement M
 put-built-spec =

@@ -12,24 +12,24 @@ use Rattle.report.proofs.report.Tie as tie
 
 returns : tie.Need-returns
 returns c =
-    let put = c .before .before .put-report .ensures in
+    let put = c .before .before .put-report .ensures .0 in
     let a = c .before .before .before .before .before .before .args in
-    too-short (a .sheet .now) (a .out .now) (c .before .before .put-report .result) (put .ends ∙ zero-add _) (c .if1 .taken)
+    too-short (a .sheet .now) (a .out .now) (c .before .before .put-report .result .end) (put .ends ∙ zero-add _) (c .if1 .taken)
 
 array-share-prefix-text : tie.Need-array-share-prefix-text
-array-share-prefix-text c = put-within (c .before .before .before .put-report .ensures) (report-most (c .before .before .before .before .before .before .before .args .sheet .now))
+array-share-prefix-text c = put-within (c .before .before .before .put-report .ensures .0) (report-most (c .before .before .before .before .before .before .before .args .sheet .now))
 
 slice-aggregate-put : tie.Need-slice-aggregate-put
-slice-aggregate-put c = count-is _ _ (put-within (c .before .before .before .before .put-report .ensures) (report-most (c .before .before .before .before .before .before .before .before .args .sheet .now)))
+slice-aggregate-put c = count-is _ _ (put-within (c .before .before .before .before .put-report .ensures .0) (report-most (c .before .before .before .before .before .before .before .before .args .sheet .now)))
 
 put-requires : tie.Need-put-requires
-put-requires c κs = rw (put-taken (c .before .before .before .before .put-report .ensures) (report-most (c .before .before .before .before .before .before .before .before .args .sheet .now))) (omega (arith, c .before .before .before .before .put-report .ensures .ends))
+put-requires c κs = rw (put-taken (c .before .before .before .before .put-report .ensures .0) (report-most (c .before .before .before .before .before .before .before .before .args .sheet .now))) (omega (arith, c .before .before .before .before .put-report .ensures .0 .ends))
 
 returns-2 : tie.Need-returns-2
 returns-2 c =
-    let put = c .before .before .before .before .before .before .before .put-report .ensures in
+    let put = c .before .before .before .before .before .before .before .put-report .ensures .0 in
     let a = c .before .before .before .before .before .before .before .before .before .before .before .args in
-    all-written (a .sheet .now) (a .out .now) (c .before .before .before .before .before .before .before .put-report .result) (put .ends ∙ zero-add _) (c .before .before .before .before .before .if1 .left) (c .before .before .put .ensures .bytes ∙ ap (sets (a .out .now) 0) (put-taken put (report-most (a .sheet .now))))
+    all-written (a .sheet .now) (a .out .now) (c .before .before .before .before .before .before .before .put-report .result .end) (put .ends ∙ zero-add _) (c .before .before .before .before .before .if1 .left) (c .before .before .put .ensures .bytes ∙ ap (sets (a .out .now) 0) (put-taken put (report-most (a .sheet .now))))
 
 pub report-spec : {M : Type 1} → statement M
 report-spec =

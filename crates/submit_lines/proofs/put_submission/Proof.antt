@@ -1,11 +1,12 @@
 -- `submit_lines::put_submission` meets its contract: what is lent is what the definition says, cut from the arrays.
 use Prim.Native.Nat.{_*_, _/_, _≤_}
+use mathlib.Core.Path.{_∙_}
 use lib.ListN.{length}
 use native.Mathlib.Omega.{arith}
 use Rattle.text.proofs.Laws.{put-within, put-taken}
 use Rattle.ray_tracing.specs.Report.{actionCells}
 use Rattle.submit_lines.specs.Parts.{actionsIn, listing}
-use Rattle.submit_lines.proofs.Laws.{cells-fit, count-is, zeros, submission-is}
+use Rattle.submit_lines.proofs.Laws.{cells-fit, count-is, zeros, lines-are, refusal-is}
 use borrow.Author.Needs.{needs}
 use Rattle.submit_lines.proofs.put_submission.Statement.{statement}
 use Rattle.submit_lines.proofs.put_submission.Tie as tie
@@ -51,15 +52,12 @@ returns c =
     let a = start .args in
     let few = start .pre .0 in
     let n = length (a .tlases .now) / 22 in
-    rw (submission-is (a .counter) (a .blases .now) (a .tlases .now) (a .entries .now) (a .packages .now) (a .recorded) (a .actions .now)
-    (a .lists .now)
-    (submitted .submit .result)
-    (submitted .submit .ensures)
-    (put-taken (blases .put .ensures) (few .blas-bytes))
-    (put-taken (tlases .put2 .ensures) (few .tlas-bytes))
-    (zeros n 32 (omega (arith, few .tlas-bytes)))
-    (zeros (n * 512) 16384 (omega (arith, few .tlas-bytes)))
-    (put-taken (acted .put-actions .ensures) (fitting start))) at (put .put-submitted .ensures)
+    let b = put-taken (blases .put .ensures) (few .blas-bytes) in
+    let t = put-taken (tlases .put2 .ensures) (few .tlas-bytes) in
+    let c = zeros n 32 (omega (arith, few .tlas-bytes)) in
+    let d = zeros (n * 512) 16384 (omega (arith, few .tlas-bytes)) in
+    let l = put-taken (acted .put-actions .ensures) (fitting start) in
+    (rw (lines-are (a .counter) (a .blases .now) (a .tlases .now) (a .entries .now) (a .packages .now) (a .recorded) (a .actions .now) (a .lists .now) (submitted .submit .result) (submitted .submit .ensures) b t c d l) at (put .put-submitted .ensures .0), put .put-submitted .ensures .1 ∙ refusal-is (a .counter) (a .blases .now) (a .tlases .now) (a .entries .now) (a .packages .now) (a .recorded) (a .actions .now) (a .lists .now) (submitted .submit .result) (submitted .submit .ensures) b t c d l)
 
 pub put-submission-spec : {M : Type 1} → statement M
 put-submission-spec =
