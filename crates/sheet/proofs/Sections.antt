@@ -1,21 +1,22 @@
 -- What the reader knows after k sections, carried over one section more, and what it answers by it.
 use Prim.Native.Nat.{ℕ, zero, suc, _+_, _-_, _*_, _≤_, _<_}
 use native.Mathlib.Omega.{arith}
-use mathlib.Core.Bool.{Bool, true, false, cond}
+use mathlib.Core.Bool.{Bool, true, false, not, cond}
 use mathlib.Core.Path.{_≡_, refl, sym, _∙_}
-use mathlib.Core.List.{List}
+use mathlib.Core.List.{List, []}
 use lib.Dec.{eqb, ltb}
 use lib.ListN.{length, getD, set, length-set}
 use lib.Seq.{getD-set-same, getD-set-other}
 use borrow.Author.Tests.{lt-ltb, le-ltb, ltb-true, ltb-false, eqb-true, eqb-false}
 use Rattle.wire.specs.Wire.{leAt}
-use Rattle.ray_tracing.specs.declared.Section.{Section}
-use Rattle.ray_tracing.specs.Layout.{size}
+use Rattle.ray_tracing.specs.Layout.{layout, size}
 use Rattle.ray_tracing.specs.Reading.{
+  Judged,
   fine,
   refused,
   on,
   _or_,
+  begin,
   past,
   from,
   judgeSection,
@@ -28,8 +29,38 @@ use Rattle.ray_tracing.specs.Reading.{
   readSheet,
 }
 use Rattle.sheet.specs.Count.{countAt}
+use Rattle.sheet.specs.Found.{judgeHeader, sectionIn, sheetFrom}
 use Rattle.sheet.specs.declared.Counted.the-variants.{Records, Truncated}
-use Rattle.ray_tracing.proofs.Reading.{section-whole, past-more, from-more, section-fine, section-refused}
+use Rattle.ray_tracing.proofs.Reading.{or-fine, on-fine, records-whole, section-whole, past-more, from-more, section-fine, section-refused}
+
+-- ---- the header
+
+or-assoc : (a b c : Judged) → ((a or b) or c) ≡ (a or b or c)
+or-assoc fine b c = refl
+or-assoc (refused n p) b c = refl
+
+module _ (s : List ℕ) where
+  rest : Judged
+  rest = judgeSections s 0 9 or on (ltb (past s 9) (length s)) (refused 3 (past s 9))
+
+  header-first : judgeSheet s ≡ (judgeHeader s or rest)
+  unfolding judgeSheet rest
+  header-first = simp or-assoc
+
+  pub header-refused : (n q : ℕ) → judgeHeader s ≡ refused n q → readSheet s ≡ rejected n q
+  unfolding readSheet
+  header-refused n q e = rw (header-first, e)
+
+  module _ (e : judgeHeader s ≡ fine) where
+    pub header-fine : judgeSheet s ≡ (judgeSections s 0 9 or on (ltb (past s 9) (length s)) (refused 3 (past s 9)))
+    unfolding rest
+    header-fine = rw (header-first, e)
+
+    pub header-there : 1 + size 0 ≤ length s
+    header-there =
+        let x = or-fine (on (ltb (length s) 1) (refused 2 0)) _ e in
+        let y = or-fine (on (not (eqb (leAt 1 s 0) 1)) (refused 1 0)) _ (x .1) in
+        records-whole (begin 0 [] false) (layout 0 .fields) s 1 1 (ltb-false (length s) 1 (on-fine _ 2 0 (x .0))) (y .1)
 
 -- what a count that is read tells, and one that is not
 pub count-there : (s : List ℕ) (at n : ℕ) → countAt s at ≡ Records n → (at + 2 ≤ length s) × (n ≡ leAt 2 s at)
@@ -135,7 +166,22 @@ module _ (s start count : List ℕ) (a p k : ℕ) (g : Known s start count a p k
         let f = rw last at (g .judged) in
         rw (f, ← e, le-ltb p (length s) l)
 
-    pub section-found :
-        (j : ℕ) (r : Section) → j < 9 → (r .start ≡ getD start j 0) × (r .count ≡ getD count j 0) → r ≡ sectionOf s j
-    section-found j r l e =
-        λ i. record { start = (e .0 ∙ g .start-is j (omega arith)) i; count = (e .1 ∙ g .count-is j (omega arith)) i }
+    section-found : (j : ℕ) → j < 9 → sectionIn start count j ≡ sectionOf s j
+    section-found j l = λ i. record { start = g .start-is j (omega arith) i; count = g .count-is j (omega arith) i }
+
+    pub sheet-found : sheetFrom s start count ≡ sheetOf s
+    sheet-found =
+        λ i. record {
+          version = leAt 1 s 0;
+          alignment = leAt 4 s 1;
+          counter = leAt 8 s 5;
+          buffers = section-found 0 (omega arith) i;
+          blases = section-found 1 (omega arith) i;
+          declared = section-found 2 (omega arith) i;
+          tlases = section-found 3 (omega arith) i;
+          entries = section-found 4 (omega arith) i;
+          geometries = section-found 5 (omega arith) i;
+          packages = section-found 6 (omega arith) i;
+          slots = section-found 7 (omega arith) i;
+          actions = section-found 8 (omega arith) i;
+        }

@@ -10,86 +10,63 @@ use Rattle.ray_tracing.specs.Layout.{layout, size}
 use Rattle.ray_tracing.specs.Reading.{fine, past, from, judgeSection, judgeSheet, accepted, readSheet}
 use Rattle.ray_tracing.specs.Causes.{judgedOf}
 use Rattle.ray_tracing.proofs.Reading.{records-whole, section-whole}
-use Rattle.sheet.proofs.Sections.{Known, count-there, count-early, section-early, known-next, refused-at, left-over, read, section-found}
+use Rattle.sheet.proofs.Sections.{Known, header-refused, header-fine, header-there, count-there, count-early, section-early, known-next, refused-at, left-over, read, sheet-found}
 use Rattle.sheet.proofs.read_sheet.Statement.{statement}
 use Rattle.sheet.proofs.read_sheet.Tie as tie
 
 abbrev Inv-loop : tie.InvT-loop
-Inv-loop sheet version start₀ count₀ p₀ a₀ k₀ start count p a k = Known sheet start count a p k
+Inv-loop sheet start₀ count₀ p₀ a₀ k₀ start count p a k = Known sheet start count a p k
 
 abbrev μ-loop : tie.MeasureT-loop
-μ-loop sheet version start₀ count₀ p₀ a₀ k₀ start count p a k = 9 - k
+μ-loop sheet start₀ count₀ p₀ a₀ k₀ start count p a k = 9 - k
 
 returns : tie.Need-returns Inv-loop μ-loop
-unfolding readSheet judgeSheet
-returns c = rw (lt-ltb (length (c .before .before .args .sheet .now)) 1 (c .if1 .taken))
-
-returns-2 : tie.Need-returns-2 Inv-loop μ-loop
-unfolding readSheet judgeSheet
-returns-2 c =
-    rw (le-ltb (length (c .before .before .before .before .args .sheet .now)) 1 (c .before .before .if1 .left), ← c .before .u8-at .ensures, ne-eqb _ 1 (c .if2 .taken))
-
-returns-3 : tie.Need-returns-3 Inv-loop μ-loop
-unfolding readSheet judgeSheet
-returns-3 c =
-    let s = c .before .before .before .before .before .before .before .before .before .args .sheet .now in
-    rw (
-      le-ltb (length s) 1 (c .before .before .before .before .before .before .before .if1 .left),
-      ← c .before .before .before .before .before .before .u8-at .ensures,
-      eq-eqb _ 1 (c .before .before .before .before .before .if2 .left),
-      ← c .before .before .before .judge-records .ensures,
-      c .before .e .given .1,
-    )
-
-header-there : (d : tie.After-enum-told Inv-loop μ-loop) → 1 + size 0 ≤ length (d .before .before .before .before .before .before .before .before .args .sheet .now)
-header-there d =
-    records-whole _ (layout 0 .fields) (d .before .before .before .before .before .before .before .before .args .sheet .now) 1 1 (d .before .before .before .before .before .before .if1 .left) (sym (d .before .before .judge-records .ensures) ∙ ap judgedOf (d .enum-told .given .1))
+returns c = sym (header-refused _ _ _ (sym (c .before .before .before .judge-header .ensures) ∙ ap judgedOf (c .before .e .given .1)))
 
 loop-holds : tie.Need-loop-holds Inv-loop μ-loop
-unfolding judgeSheet from past
+unfolding from past
 loop-holds c =
-    let s = c .before .before .before .before .before .before .before .before .before .args .sheet .now in
-    let f = sym (c .before .before .before .judge-records .ensures) ∙ ap judgedOf (c .before .enum-told .given .1) in
+    let f = sym (c .before .before .before .judge-header .ensures) ∙ ap judgedOf (c .before .enum-told .given .1) in
     record {
       within = omega arith;
       order = omega arith;
       header = omega (arith, c .size-of .ensures);
-      whole = omega (arith, c .size-of .ensures, header-there (c .before));
+      whole = omega (arith, c .size-of .ensures, header-there (c .before .before .before .before .before .args .sheet .now) f);
       starts = refl;
       counts = refl;
       begins = rw (c .size-of .ensures);
       ends = rw (c .size-of .ensures);
       start-is = λ j h. absurd (omega arith);
       count-is = λ j h. absurd (omega arith);
-      judged = rw (le-ltb (length s) 1 (c .before .before .before .before .before .before .before .if1 .left), ← c .before .before .before .before .before .before .u8-at .ensures, eq-eqb _ 1 (c .before .before .before .before .before .if2 .left), f);
+      judged = header-fine _ f;
     }
 
-returns-4 : tie.Need-returns-4 Inv-loop μ-loop
-returns-4 c =
+returns-2 : tie.Need-returns-2 Inv-loop μ-loop
+returns-2 c =
     let l = c .before .before .before .before .loop in
     sym
-    (refused-at _ _ _ _ _ _ (l .inv) 2 (l .p) (c .before .before .before .loop-test .taken) (section-early _ (l .k) (l .a) (l .p) (count-early (c .before .before .before .before .before .before .before .before .before .before .before .before .before .before .args .sheet .now) (l .p) (sym (c .before .before .read-count .ensures) ∙ c .enum-told2 .given .1))))
+    (refused-at _ _ _ _ _ _ (l .inv) 2 (l .p) (c .before .before .before .loop-test .taken) (section-early _ (l .k) (l .a) (l .p) (count-early (c .before .before .before .before .before .before .before .before .before .before .args .sheet .now) (l .p) (sym (c .before .before .read-count .ensures) ∙ c .enum-told2 .given .1))))
 
 -- the count is there
 module _ (c : tie.After-n Inv-loop μ-loop) where
-  counted : (c .before .before .before .before .loop .p + 2 ≤ length (c .before .before .before .before .before .before .before .before .before .before .before .before .before .before .args .sheet .now)) × (c .n .given .0 .0 ≡ leAt 2 (c .before .before .before .before .before .before .before .before .before .before .before .before .before .before .args .sheet .now) (c .before .before .before .before .loop .p))
+  counted : (c .before .before .before .before .loop .p + 2 ≤ length (c .before .before .before .before .before .before .before .before .before .before .args .sheet .now)) × (c .n .given .0 .0 ≡ leAt 2 (c .before .before .before .before .before .before .before .before .before .before .args .sheet .now) (c .before .before .before .before .loop .p))
   counted = count-there _ _ _ (sym (c .before .before .read-count .ensures) ∙ c .n .given .1)
 
 read-section-requires : tie.Need-read-section-requires Inv-loop μ-loop
 read-section-requires c κs = (search needs, (c .before .before .before .before .before .loop .inv .order, counted (c .before) .0))
 
-returns-5 : tie.Need-returns-5 Inv-loop μ-loop
-returns-5 c =
+returns-3 : tie.Need-returns-3 Inv-loop μ-loop
+returns-3 c =
     sym
     (refused-at _ _ _ _ _ _ (c .before .before .before .before .before .before .before .before .before .loop .inv) _ _ (c .before .before .before .before .before .before .before .before .loop-test .taken) (sym (c .before .before .before .read-section .ensures) ∙ ap judgedOf (c .before .e2 .given .1)))
 
 module _ (c : tie.After-enum-told3 Inv-loop μ-loop) where
-  judged : judgeSection (c .before .before .before .before .before .before .before .before .before .before .before .before .before .before .before .before .before .before .args .sheet .now) (c .before .before .before .before .before .before .before .before .loop .k) (c .before .before .before .before .before .before .before .before .loop .a) (c .before .before .before .before .before .before .before .before .loop .p) ≡ fine
+  judged : judgeSection (c .before .before .before .before .before .before .before .before .before .before .before .before .before .before .args .sheet .now) (c .before .before .before .before .before .before .before .before .loop .k) (c .before .before .before .before .before .before .before .before .loop .a) (c .before .before .before .before .before .before .before .before .loop .p) ≡ fine
   judged = sym (c .before .before .read-section .ensures) ∙ ap judgedOf (c .enum-told3 .given .1)
 
   section-there :
-      c .before .before .before .before .before .before .before .before .loop .p + 2 + leAt 2 (c .before .before .before .before .before .before .before .before .before .before .before .before .before .before .before .before .before .before .args .sheet .now) (c .before .before .before .before .before .before .before .before .loop .p) * size (c .before .before .before .before .before .before .before .before .loop .k + 1)
-      ≤ length (c .before .before .before .before .before .before .before .before .before .before .before .before .before .before .before .before .before .before .args .sheet .now)
+      c .before .before .before .before .before .before .before .before .loop .p + 2 + leAt 2 (c .before .before .before .before .before .before .before .before .before .before .before .before .before .before .args .sheet .now) (c .before .before .before .before .before .before .before .before .loop .p) * size (c .before .before .before .before .before .before .before .before .loop .k + 1)
+      ≤ length (c .before .before .before .before .before .before .before .before .before .before .before .before .before .before .args .sheet .now)
   section-there = section-whole _ (c .before .before .before .before .before .before .before .before .loop .k) (c .before .before .before .before .before .before .before .before .loop .a) (c .before .before .before .before .before .before .before .before .loop .p) judged
 
 mul-p : tie.Need-mul-p Inv-loop μ-loop
@@ -103,29 +80,15 @@ loop-again c =
     rw (counted (c .before .before .before .before .before) .1, c .size-of2 .ensures)
     (known-next _ _ _ _ _ _ (c .before .before .before .before .before .before .before .before .before .loop .inv) (c .before .before .before .before .before .before .before .before .loop-test .taken) (judged (c .before)))
 
-returns-6 : tie.Need-returns-6 Inv-loop μ-loop
-returns-6 c = sym (left-over _ _ _ _ _ _ (c .before .before .loop .inv) (c .before .loop-test .left) (c .if3 .taken))
+returns-4 : tie.Need-returns-4 Inv-loop μ-loop
+returns-4 c = sym (left-over _ _ _ _ _ _ (c .before .before .loop .inv) (c .before .loop-test .left) (c .if1 .taken))
 
-returns-7 : tie.Need-returns-7 Inv-loop μ-loop
-returns-7 c =
-    let g = c .before .before .before .before .before .before .before .before .before .before .before .before .before .loop .inv in
-    let h = c .before .before .before .before .before .before .before .before .before .before .before .before .loop-test .left in
-    let found = section-found _ _ _ _ _ _ g h in
-    (λ i. accepted (record {
-      version = (c .before .before .before .before .before .before .before .before .before .before .before .before .before .before .before .before .before .before .before .before .u8-at .ensures) i;
-      alignment = (c .before .before .before .before .before .before .before .before .before .before .u32-at .ensures) i;
-      counter = (c .before .before .before .before .before .before .before .before .before .u64-at .ensures) i;
-      buffers = found 0 (c .before .before .before .before .before .before .before .before .section-at .result) (search needs) (c .before .before .before .before .before .before .before .before .section-at .ensures) i;
-      blases = found 1 (c .before .before .before .before .before .before .before .section-at2 .result) (search needs) (c .before .before .before .before .before .before .before .section-at2 .ensures) i;
-      declared = found 2 (c .before .before .before .before .before .before .section-at3 .result) (search needs) (c .before .before .before .before .before .before .section-at3 .ensures) i;
-      tlases = found 3 (c .before .before .before .before .before .section-at4 .result) (search needs) (c .before .before .before .before .before .section-at4 .ensures) i;
-      entries = found 4 (c .before .before .before .before .section-at5 .result) (search needs) (c .before .before .before .before .section-at5 .ensures) i;
-      geometries = found 5 (c .before .before .before .section-at6 .result) (search needs) (c .before .before .before .section-at6 .ensures) i;
-      packages = found 6 (c .before .before .section-at7 .result) (search needs) (c .before .before .section-at7 .ensures) i;
-      slots = found 7 (c .before .section-at8 .result) (search needs) (c .before .section-at8 .ensures) i;
-      actions = found 8 (c .section-at9 .result) (search needs) (c .section-at9 .ensures) i;
-    }))
-    ∙ sym (read _ _ _ _ _ _ g h (c .before .before .before .before .before .before .before .before .before .before .before .if3 .left))
+returns-5 : tie.Need-returns-5 Inv-loop μ-loop
+returns-5 c =
+    let g = c .before .before .before .loop .inv in
+    let h = c .before .before .loop-test .left in
+    ap accepted (c .sheet-from .ensures ∙ sheet-found _ _ _ _ _ _ g h)
+    ∙ sym (read _ _ _ _ _ _ g h (c .before .if1 .left))
 
 pub read-sheet-spec : {M : Type 1} → statement M
 read-sheet-spec =
@@ -133,15 +96,9 @@ read-sheet-spec =
     (tie.spec
     Inv-loop
     μ-loop
-    returns
-    (λ c κs. search needs)
-    returns-2
-    (λ c. omega arith)
-    (λ c. omega arith)
-    (λ c. omega arith)
     (λ c κs. search needs)
     (λ c. search needs)
-    returns-3
+    returns
     (λ c. search needs)
     (λ c κs. search needs)
     (λ c. omega (arith, c .size-of .ensures))
@@ -149,10 +106,10 @@ read-sheet-spec =
     (λ c κs. search needs)
     (λ c. search needs)
     (λ c. search needs)
-    returns-4
+    returns-2
     read-section-requires
     (λ c. search needs)
-    returns-5
+    returns-3
     (λ c. search needs)
     (λ c. omega (arith, section-there c))
     (λ c. omega arith)
@@ -167,16 +124,6 @@ read-sheet-spec =
     add-p-2
     (λ c. omega arith)
     loop-again
-    returns-6
+    returns-4
     (λ c κs. omega (arith, c .before .before .loop .inv .header, c .before .before .loop .inv .whole))
-    (λ c κs. omega (arith, c .before .before .before .loop .inv .header, c .before .before .before .loop .inv .whole))
-    (λ c κs. search needs)
-    (λ c κs. search needs)
-    (λ c κs. search needs)
-    (λ c κs. search needs)
-    (λ c κs. search needs)
-    (λ c κs. search needs)
-    (λ c κs. search needs)
-    (λ c κs. search needs)
-    (λ c κs. search needs)
-    returns-7)
+    returns-5)

@@ -51,10 +51,10 @@ use Rattle.sheet.proofs.SectionReader as T
 use Rattle.sheet.proofs.SectionReader.Laws as T′
 use Rattle.ray_tracing.proofs.Judged as S
 use Rattle.ray_tracing.proofs.Judged.Laws as S′
-use Rattle.sheet.proofs.judge_section as judge-section
-use Rattle.sheet.proofs.judge_section.Symbol as judge-section-def
-use Rattle.sheet.proofs.judge_section.Symbol.{name as #sheet·judge-section}
-use Rattle.sheet.proofs.judge_section.Met as judge-section-thm
+use Rattle.sections.proofs.judge_section as judge-section
+use Rattle.sections.proofs.judge_section.Symbol as judge-section-def
+use Rattle.sections.proofs.judge_section.Symbol.{name as #sections·judge-section}
+use Rattle.sections.proofs.judge_section.Met as judge-section-thm
 use Rattle.sheet.proofs.SectionReader.section.Key.{name as #sheet·section}
 use Rattle.sheet.proofs.SectionReader.section as section
 use Rattle.sheet.proofs.SectionReader.section.Statement as stated
@@ -132,7 +132,7 @@ module _ {M : Type 1} (𝓤 : URA M) (H : Heap 𝓤) (A : Atoms 𝓤) (W : Given
       suffices ! _ (ends-at 𝓤 H A section.ended stayed (section.clauses 𝓤 H A mem run) W (((κ, tt), (q, tt), tt, (d, (k, (a, tt))), vals), tt) u r (tt, (tt, (tt, tt))) (tt, (tt, (tt, tt)))) $ says ! e $
       move ! (1 ∷ []) $ frame ! $ nothing ! $ owned ! usize (Is usize) (uint-makes 𝓤 H A W w64) a _ (refl, a-fits) $ fjoin ! $ owned ! usize (Is usize) (uint-makes 𝓤 H A W w64) k _ (refl, k-fits) $ fjoin ! $ move ! (2 ∷ 0 ∷ []) $ fjoin ! $ frame ! $ done !
 
-  module _ (C : Calls 𝓤 H) (Λ : Loops 𝓤 H) (fm : FmC 𝓤 H (W .laws) C) (known : Triple 𝓤 (C #sheet·judge-section) (JudgeSection 𝓤 H A mem run)) where
+  module _ (C : Calls 𝓤 H) (Λ : Loops 𝓤 H) (fm : FmC 𝓤 H (W .laws) C) (known : Triple 𝓤 (C #sections·judge-section) (JudgeSection 𝓤 H A mem run)) where
     walk : Holds (hasTy (T′.mir (named 0)) mach) × WT mach → ent 𝓤 (onEntry 𝓤 H A section.signature (κ, tt) (q, tt) (d, (k, (a, tt))) vals) (WpFn 𝓤 H C Λ code.function (mach ∷ vint w64 k ∷ vint w64 a ∷ []) Post)
     walk wt =
         qed W (raw (onEntry 𝓤 H A section.signature (κ, tt) (q, tt) (d, (k, (a, tt))) vals) ∷ []) ∵ enter ! C Λ code.function (mach ∷ vint w64 k ∷ vint w64 a ∷ []) _ $
@@ -150,14 +150,14 @@ module _ {M : Type 1} (𝓤 : URA M) (H : Heap 𝓤) (A : Atoms 𝓤) (W : Given
         move ! (13 ∷ 14 ∷ []) $ free1 ! $ move ! (11 ∷ 12 ∷ []) $ free1 ! $ move ! (9 ∷ 10 ∷ []) $ free1 ! $ move ! (7 ∷ 8 ∷ []) $ free1 ! $ move ! (5 ∷ 6 ∷ []) $ free1 ! $ move ! (3 ∷ 4 ∷ []) $ free1 ! $ free0 ! $ by ! (exits r u e)))))))))))
 
 module _ {M : Type 1} (𝓤 : URA M) (H : Heap 𝓤) (A : Atoms 𝓤) (W : Given 𝓤 H A) (mem : Memory → SProp 𝓤) (run : Routine → Fun 𝓤) where
-  section-walks : (C : Calls 𝓤 H) (Λ : Loops 𝓤 H) → FmC 𝓤 H (W .laws) C → Triple 𝓤 (C #sheet·judge-section) (JudgeSection 𝓤 H A mem run)
+  section-walks : (C : Calls 𝓤 H) (Λ : Loops 𝓤 H) → FmC 𝓤 H (W .laws) C → Triple 𝓤 (C #sections·judge-section) (JudgeSection 𝓤 H A mem run)
       → Walks 𝓤 H A section.ended stayed (WpFn 𝓤 H C Λ code.function) (section.clauses 𝓤 H A mem run)
   section-walks C Λ fm known = walked 𝓤 H A section.ended stayed (section.clauses 𝓤 H A mem run) (WpFn 𝓤 H C Λ code.function) (λ κs. (LL.vals (T.the-type (namedLft 1 0 tt κs)) (T′.the-laws (namedLft 1 0 tt κs)), (uint-vals w64, (uint-vals w64, tt)))) (λ κs. (LL.tells (T.the-type (namedLft 1 0 tt κs)) (T′.the-laws (namedLft 1 0 tt κs)), (uint-tells w64, (uint-tells w64, tt))))
       (λ κs qs bounds a g are. needs 𝓤 _ _
       (λ ok. walk 𝓤 H A W mem run (κs .0) (qs .0) (a .0) (a .1 .0) (a .1 .1 .0) (are .1 .0 .1) (are .1 .1 .0 .1) ok C Λ fm known (LL.lawful (T.the-type (namedLft 1 0 tt κs)) (T′.the-laws (namedLft 1 0 tt κs)) 𝓤 H A W .typed (a .0) _ (are .0) .0)))
 
 section-meets : {M : Type 1} (𝓤 : URA M) (H : Heap 𝓤) (A : Atoms 𝓤) (W : Given 𝓤 H A) (mem : Memory → SProp 𝓤) (run : Routine → Fun 𝓤) (𝓣 : Tables 𝓤 H)
-    → Triple 𝓤 (𝓣 .C #sheet·judge-section) (JudgeSection 𝓤 H A mem run)
+    → Triple 𝓤 (𝓣 .C #sections·judge-section) (JudgeSection 𝓤 H A mem run)
     → Meets 𝓤 H A section.signature (WpFn 𝓤 H (𝓣 .C) (𝓣 .Λ) code.function) (section.spec 𝓤 H A mem run)
 section-meets 𝓤 H A W mem run 𝓣 known = walk-meets 𝓤 H A section.ended stayed W (goes-none 𝓤 H A W 1 B yes (λ κs x f. refl), (goes-none 𝓤 H A W 1 (λ _. usize) yes (λ κs x f. refl), (goes-none 𝓤 H A W 1 (λ _. usize) yes (λ κs x f. refl), tt))) (section.clauses 𝓤 H A mem run) (WpFn 𝓤 H (𝓣 .C) (𝓣 .Λ) code.function) (WpFn-mono 𝓤 H (W .laws) 𝓣 code.function)
     (section-walks 𝓤 H A W mem run (𝓣 .C) (𝓣 .Λ) (fmOf 𝓤 H (W .laws) 𝓣) known)
@@ -168,4 +168,4 @@ section-spec 𝓤 H 𝓜 𝓖 𝓡 =
     entered 𝓤 H (tripleOf 𝓤 H (𝓖 .A) section.signature (section.spec 𝓤 H (𝓖 .A) (𝓜 .mem) (𝓡 .run)))
     (tables 𝓤 H 𝓜 𝓡 code.env .C) (tables 𝓤 H 𝓜 𝓡 code.env .Λ) #sheet·section code.function (code.unfolded 𝓤 H 𝓜 𝓡)
     (section-meets 𝓤 H (𝓖 .A) (givenOf 𝓤 H 𝓜 𝓖) (𝓜 .mem) (𝓡 .run) (tablesOf 𝓤 H 𝓜 (tables 𝓤 H 𝓜 𝓡 code.env))
-    (cited 𝓤 H (JudgeSection 𝓤 H (𝓖 .A) (𝓜 .mem) (𝓡 .run)) 𝓜 𝓡 code.env #sheet·judge-section judge-section-def.routine code.calls-sheet·judge-section (judge-section-thm.met 𝓤 H 𝓜 𝓖 𝓡)))
+    (cited 𝓤 H (JudgeSection 𝓤 H (𝓖 .A) (𝓜 .mem) (𝓡 .run)) 𝓜 𝓡 code.env #sections·judge-section judge-section-def.routine code.calls-sections·judge-section (judge-section-thm.met 𝓤 H 𝓜 𝓖 𝓡)))

@@ -1,0 +1,81 @@
+// The layout's numbers as code: a section's record size, the most records that it may have, and counts that add up.
+use wire::u16_at;
+ghost use mathlib.Core.Path.{_≡_};
+ghost use Prim.Native.Nat.{_+_, _/_, _≤_, _<_};
+ghost use lib.ListN.{length};
+ghost use lib.Dec.{eqb};
+ghost use Rattle.ray_tracing.specs.Layout.{layout, size};
+ghost use Rattle.ray_tracing.specs.Reading.{sumOfCounts, addsUp};
+
+const SIZE: [usize; 10] = [12, 9, 28, 18, 22, 5, 44, 4, 56, 3];
+
+const MOST: [usize; 10] = [1, 256, 128, 512, 32, 64, 256, 32, 512, 64];
+
+pub fn size_of(section: usize) -> usize
+    requires { ⌜ section < 10 ⌝ }
+    ensures { λ r. ⌜ r ≡ size section ⌝ }
+{
+    SIZE[section]
+}
+
+pub fn most_of(section: usize) -> usize
+    requires { ⌜ section < 10 ⌝ }
+    ensures { λ r. ⌜ r ≡ layout section .most ⌝ }
+{
+    MOST[section]
+}
+
+// How many records of `each` bytes there are; none, where a record has no bytes. A record's size is one of ten, and a number that is known
+// is divided by without a division.
+pub fn records_in(bytes: usize, each: usize) -> usize
+    ensures { λ r. ⌜ r ≡ bytes / each ⌝ }
+{
+    match each {
+        0 => 0,
+        3 => bytes / 3,
+        4 => bytes / 4,
+        5 => bytes / 5,
+        9 => bytes / 9,
+        18 => bytes / 18,
+        22 => bytes / 22,
+        28 => bytes / 28,
+        44 => bytes / 44,
+        56 => bytes / 56,
+        _ => bytes / each,
+    }
+}
+
+// Whether the counts at `offset` of all records of `width` bytes add up to n.
+fn sums_to(t: &[u8], width: usize, offset: usize, n: usize) -> bool
+    requires { ⌜ (offset + 2 ≤ width) × (width < 64) ⌝ }
+    ensures { λ r. ⌜ r ≡ eqb (sumOfCounts (now (t .entry)) width offset (length (now (t .entry)) / width)) n ⌝ }
+{
+    let mut q = offset;
+    let mut rest = n;
+    let mut left = t.len() / width;
+    while 0 < left {
+        let count = u16_at(t, q) as usize;
+        if rest < count {
+            return false;
+        }
+        rest -= count;
+        q += width;
+        left -= 1;
+    }
+    if rest == 0 {
+        return true;
+    }
+    false
+}
+
+pub fn adds_up(section: usize, before: &[u8], n: usize) -> bool
+    ensures { λ r. ⌜ r ≡ addsUp section (now (before .entry)) n ⌝ }
+{
+    if section == 6 {
+        return sums_to(before, size_of(5), 3, n);
+    }
+    if section == 8 {
+        return sums_to(before, size_of(7), 2, n);
+    }
+    true
+}

@@ -1,0 +1,36 @@
+-- `sheet::judge_header` meets its contract: each test in turn.
+use native.Mathlib.Omega.{arith}
+use lib.ListN.{length}
+use borrow.Author.Needs.{needs}
+use borrow.Author.Tests.{lt-ltb, le-ltb, eq-eqb, ne-eqb}
+use Rattle.sheet.proofs.judge_header.Statement.{statement}
+use Rattle.sheet.proofs.judge_header.Tie as tie
+
+returns : tie.Need-returns
+returns c = rw (lt-ltb (length (c .before .before .args .sheet .now)) 1 (c .if1 .taken))
+
+returns-2 : tie.Need-returns-2
+returns-2 c =
+    rw (le-ltb (length (c .before .before .before .before .args .sheet .now)) 1 (c .before .before .if1 .left), ← c .before .u8-at .ensures, ne-eqb _ 1 (c .if2 .taken))
+
+returns-3 : tie.Need-returns-3
+returns-3 c =
+    rw (
+      le-ltb (length (c .before .before .before .before .before .before .args .sheet .now)) 1 (c .before .before .before .before .if1 .left),
+      ← c .before .before .before .u8-at .ensures,
+      eq-eqb _ 1 (c .before .before .if2 .left),
+    )
+    (c .judge-records .ensures)
+
+pub judge-header-spec : {M : Type 1} → statement M
+judge-header-spec =
+    tie.close
+    (tie.spec
+    returns
+    (λ c κs. search needs)
+    returns-2
+    (λ c. omega arith)
+    (λ c. omega arith)
+    (λ c. omega arith)
+    (λ c κs. search needs)
+    returns-3)
