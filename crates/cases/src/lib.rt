@@ -5,6 +5,7 @@ ghost use mathlib.Core.Path.{_≡_};
 ghost use Prim.Native.Nat.{_*_, _≤_, _<_};
 ghost use lib.ListN.{length};
 ghost use Rattle.io.specs.Counts.{Counts};
+ghost use Rattle.cases.specs.First.{atMost, firstOf};
 ghost use Rattle.cases.specs.Hash.{hash, hashStep};
 
 // The next n bytes of the input, put first, and how many there were: fewer at the input's end, none where there is no room for n.
@@ -83,6 +84,34 @@ pub fn fill_u32(cells: &mut [u32], n: usize) -> usize
     let got = fill(&mut bytes, 4 * n) / 4;
     take_u32(cells, &bytes, got);
     got
+}
+
+fn at_most(n: usize, most: usize) -> usize
+    ensures { λ r. ⌜ (r ≡ atMost n most) × (r ≤ most) ⌝ }
+{
+    if most < n { 0 } else { n }
+}
+
+// The first n, where there are so many; else none.
+pub fn first_u8(s: &mut [u8], n: usize) -> &mut [u8]
+    ensures { λ r. ⌜ now r ≡ firstOf n (now (s .entry)) ⌝ }
+{
+    let n = at_most(n, s.len());
+    &mut s[0..n]
+}
+
+pub fn first_u16(s: &mut [u16], n: usize) -> &mut [u16]
+    ensures { λ r. ⌜ now r ≡ firstOf n (now (s .entry)) ⌝ }
+{
+    let n = at_most(n, s.len());
+    &mut s[0..n]
+}
+
+pub fn first_u64(s: &mut [u64], n: usize) -> &mut [u64]
+    ensures { λ r. ⌜ now r ≡ firstOf n (now (s .entry)) ⌝ }
+{
+    let n = at_most(n, s.len());
+    &mut s[0..n]
 }
 
 fn hash_step(h: u64, v: u64) -> u64

@@ -1,7 +1,5 @@
 // Reads sheets from standard input, each after its length as a u32, and writes a line for each: the refusal's number and place, or 0,
 // version, alignment, counter, and the start and count of each section. tests/make_read_cases.py makes sheets and answers.
-use libc::STDIN_FILENO;
-use libc::STDOUT_FILENO;
 use ray_tracing::Section;
 use ray_tracing::Sheet;
 use ray_tracing::SheetError;
@@ -17,17 +15,13 @@ fn number(e: SheetError) -> u64 {
     }
 }
 
-fn print(n: u64) {
-    io::write_all(STDOUT_FILENO, b" ");
-    io::print_decimal(STDOUT_FILENO, n);
-}
-
 fn print_section(s: Section) {
-    print(s.start as u64);
-    print(s.count as u64);
+    let words = [s.start as u64, s.count as u64];
+    cases::print_words(&words);
 }
 
 fn print_sheet(s: Sheet) {
+    let head = [0, s.version as u64, s.alignment as u64, s.counter];
     let buffers = s.buffers;
     let blases = s.blases;
     let declared = s.declared;
@@ -37,10 +31,8 @@ fn print_sheet(s: Sheet) {
     let packages = s.packages;
     let slots = s.slots;
     let actions = s.actions;
-    io::write_all(STDOUT_FILENO, b"0");
-    print(s.version as u64);
-    print(s.alignment as u64);
-    print(s.counter);
+    let last = [actions.start as u64, actions.count as u64];
+    cases::print_words(&head);
     print_section(buffers);
     print_section(blases);
     print_section(declared);
@@ -49,46 +41,28 @@ fn print_sheet(s: Sheet) {
     print_section(geometries);
     print_section(packages);
     print_section(slots);
-    print_section(actions);
+    cases::print_line(&last);
 }
 
 fn answer(sheet: &[u8]) {
     match sheet::read_sheet(sheet) {
         SheetRead::Accepted(s) => print_sheet(s),
         SheetRead::Refused(e, place) => {
-            io::print_decimal(STDOUT_FILENO, number(e));
-            print(place as u64);
+            let line = [number(e), place as u64];
+            cases::print_line(&line);
         }
-    }
-    io::write_all(STDOUT_FILENO, b"\n");
-}
-
-// The next n bytes of the input, if there are so many.
-fn fill(bytes: &mut [u8], n: usize) -> bool {
-    if bytes.len() < n {
-        return false;
-    }
-    io::read_full(STDIN_FILENO, &mut bytes[0..n]) == n
-}
-
-fn answer_first(bytes: &[u8], n: usize) {
-    if n <= bytes.len() {
-        answer(&bytes[0..n]);
     }
 }
 
 // One sheet; false at the end of the input.
 fn next_case() -> bool {
-    let mut head = [0u8; 4];
-    if !fill(&mut head, 4) {
+    let length = cases::next_u32();
+    if length == cases::END {
         return false;
     }
-    let n = wire::u32_at(&head, 0) as usize;
     let mut bytes = io::large_buffer();
-    if !fill(&mut bytes, n) {
-        return false;
-    }
-    answer_first(&bytes, n);
+    let n = cases::fill(&mut bytes, length);
+    answer(&bytes[..n]);
     true
 }
 

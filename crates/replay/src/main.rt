@@ -132,17 +132,14 @@ fn replay_submission() {
     let t = cases::fill(&mut tlases, length);
     let length = cases::next_u32();
     let n = cases::fill_u16(&mut counts, length);
-    let c = cases::next_u32();
-    if 17408 < c {
-        return;
-    }
+    let length = cases::next_u32();
     replay_lent(
         pieces,
         counter,
         &mut blases[..b],
         &mut tlases[..t],
         &mut counts[..n],
-        &mut cells[0..c],
+        cases::first_u16(&mut cells, length),
     );
 }
 

@@ -1,6 +1,5 @@
 // Reads sheets from standard input, each after its length as a u32, and prints the lines of each. tests/make_report_cases.py makes sheets
 // and lines.
-use libc::STDIN_FILENO;
 use libc::STDOUT_FILENO;
 use ray_tracing::Reported;
 
@@ -17,32 +16,15 @@ fn answer(sheet: &[u8]) {
     }
 }
 
-// The next n bytes of the input, if there are so many.
-fn fill(bytes: &mut [u8], n: usize) -> bool {
-    if bytes.len() < n {
-        return false;
-    }
-    io::read_full(STDIN_FILENO, &mut bytes[0..n]) == n
-}
-
-fn answer_first(bytes: &[u8], n: usize) {
-    if n <= bytes.len() {
-        answer(&bytes[0..n]);
-    }
-}
-
 // One sheet; false at the end of the input.
 fn next_case() -> bool {
-    let mut head = [0u8; 4];
-    if !fill(&mut head, 4) {
+    let length = cases::next_u32();
+    if length == cases::END {
         return false;
     }
-    let n = wire::u32_at(&head, 0) as usize;
     let mut bytes = io::large_buffer();
-    if !fill(&mut bytes, n) {
-        return false;
-    }
-    answer_first(&bytes, n);
+    let n = cases::fill(&mut bytes, length);
+    answer(&bytes[..n]);
     true
 }
 
