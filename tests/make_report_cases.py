@@ -1,16 +1,19 @@
 #!/usr/bin/env python3
-"""Writes crates/report_cases/stdin, sheets each after its length as a u32, and crates/report_cases/stdout, what printed.py prints for them.
+"""Writes crates/report_cases/stdin, sheets each after its length as a u32, and crates/report_cases/stdout, what printed.py prints for them:
+the lines of each, and then the lines with their refusal in words.
 
-Every number that a sheet can draw is drawn: 1 to 5 for the sheet, 6 and 10 to 38 for its build, 6, 21 and 40 to 44 for its actions.
+Every number that a sheet can draw is drawn: 1 to 5 for the sheet, 6 and 10 to 38 for its build, 6, 21 and 40 to 44 for its actions. So is
+each sort of 21, and a refused action of each kind. No sheet draws 42 in a use: its lists start empty, and a Build lists numbered Blases.
 """
 import pathlib
 import random
+import re
 import struct
 
 from make_build_cases import SECTIONS, base, changed, refusals, table_cases
 from make_read_cases import at_limit, put, record, sheet, worked
 from paper import U64
-from printed import printed
+from printed import explained, printed
 from reading import LIMITS
 
 
@@ -135,6 +138,19 @@ def random_cases():
         yield of(x, actions, choose.choice((0, 1, 5, 9, U64)))
 
 
+# ends of explanations, their numbers left out, that the numbers of the causes do not show to be there
+WORDS = (
+    "destroyed, entry, geometry, buffer",
+    "destroyed, entry, Blas",
+    "destroyed, package, Tlas",
+    "destroyed, use of a Tlas at action, Blas",
+    "Blas without number, recorded build at action, Blas, Tlas",
+    "id outside its table, use of a Tlas at action",
+    "id outside its table, mark of a Blas at action",
+    "id outside its table, mark of a Tlas at action",
+)
+
+
 def cases():
     yield worked()
     yield from read_cases()
@@ -147,19 +163,23 @@ def cases():
 def main():
     folder = pathlib.Path(__file__).resolve().parent.parent / "crates/report_cases"
     folder.mkdir(exist_ok=True)
-    texts, seen = [], {}
+    texts, seen, words = [], {}, set()
     with open(folder / "stdin", "wb") as out:
         for case in cases():
             out.write(struct.pack("<I", len(case)) + case)
             texts.append(printed(case))
-            for word, number in (words[:2] for words in map(str.split, texts[-1].splitlines())):
+            for word, number in (line.split()[:2] for line in texts[-1].splitlines()):
                 if word in ("sheet", "build", "submit"):
                     seen[word, int(number)] = seen.get((word, int(number)), 0) + 1
+            texts.append(explained(case))
+            words.add(re.sub(r" \d+(?=,|$)", "", texts[-1].splitlines()[-1]))
     (folder / "stdout").write_text("".join(texts))
     due = {("sheet", n) for n in range(1, 6)} | {("build", n) for n in (0, 6, *range(10, 39))}
     due |= {("submit", n) for n in (0, 6, 21, 40, 41, 42, 43, 44)}
     assert due == set(seen), due ^ set(seen)
-    print(f"{len(texts)} sheets, of up to {max(map(len, texts))} bytes of text; every number that a sheet can draw")
+    for some in ["nothing is refused", *WORDS]:
+        assert any(w.endswith(some) for w in words), some
+    print(f"{len(texts) // 2} sheets, of up to {max(map(len, texts))} bytes of text; every number that a sheet can draw; {len(words)} explanations, numbers apart")
 
 
 if __name__ == "__main__":

@@ -1,10 +1,69 @@
-"""What the sheet program prints for a sheet, from the readings in reading.py and paper.py."""
+"""What the sheet program prints for a sheet, from the readings in reading.py and paper.py, and what it refuses in words."""
 from paper import build, submit
 from reading import read
 
 # as many elements of each output as any sheet can need
 ROOMS = (64, 32, 64, 32768, 2304, 64, 640)
 SIZES = (9, 28, 18, 22, 5, 44, 4, 56, 3)
+
+# the column "Cause" of the paper's table, each with the words for its figures that are printed
+CAUSES = {
+    1: ("version not 1",),
+    2: ("sheet ends early",),
+    3: ("bytes after the sheet",),
+    4: ("count above its limit",),
+    5: ("value outside its field",),
+    6: ("id outside its table",),
+    10: ("kind mismatch",),
+    11: ("more geometries than declared",),
+    12: ("flags differ", "declared", "given"),
+    13: ("vertex count above declared", "declared", "given"),
+    14: ("vertex format differs", "declared", "given"),
+    15: ("stride below least", "needed", "given"),
+    16: ("stride not a multiple", "needed", "given"),
+    17: ("index count on one side only",),
+    18: ("index count above declared", "declared", "given"),
+    19: ("index format differs", "declared", "given"),
+    20: ("index count declared, no index buffer",),
+    21: ("destroyed",),
+    22: ("no BLAS_INPUT",),
+    23: ("region overruns buffer", "offset", "region", "size"),
+    24: ("first index, index count or transform offset absent",),
+    25: ("index format none",),
+    26: ("product or offset above 2^32 - 1", "offset", "count", "stride"),
+    27: ("index count not in threes", "count"),
+    28: ("transform unflagged",),
+    29: ("transform offset not in 16s",),
+    30: ("transform flagged, absent",),
+    31: ("box count above declared", "declared", "given"),
+    32: ("box offset not in eights",),
+    33: ("box stride below 24 or not in eights", "stride"),
+    34: ("custom data from 2^24 on",),
+    35: ("Tlas returns vertices, Blas does not",),
+    36: ("too many present slots", "count", "most"),
+    37: ("scratch 2^64 - 1",),
+    38: ("compacted Blas",),
+    39: ("lent output too short",),
+    40: ("counter 0",),
+    41: ("Blas to build is compacted", "Blas"),
+    42: ("Blas without number", "Blas", "Tlas"),
+    43: ("Tlas without number", "Tlas"),
+    44: ("Blas newer than Tlas", "Blas", "Tlas"),
+}
+# what a build's E is, where it is no entry and geometry
+PLACES = {
+    4: ("section", "record"),
+    5: ("section", "record"),
+    6: ("entry or package", "geometry or slot"),
+    34: ("package", "slot"),
+    35: ("package", "slot"),
+    36: ("package",),
+    37: (),
+    38: ("entry",),
+    39: (),
+}
+SORTS = {1: ("entry", "geometry", "buffer"), 2: ("entry", "Blas"), 3: ("package", "Tlas")}
+KINDS = {1: "recorded build", 2: "use of a Tlas", 3: "mark of a Blas", 4: "mark of a Tlas"}
 
 
 def line(word, *numbers):
@@ -15,16 +74,40 @@ def u16(data):
     return int.from_bytes(data[:2], "little")
 
 
-def printed(data):
+def explanation(refusal):
+    """The refusal in words: nothing, or what is refused ("sheet", "build" or "action"), its number, its place and its figures."""
+    if refusal is None:
+        return "nothing is refused\n"
+    what, number, place, figures = refusal
+    words, *names = CAUSES[number]
+    if what == "sheet":
+        items = [("byte", place)]
+    elif what == "action":
+        position, kind = place
+        if number == 21:
+            names = ["Blas"]
+        if number == 42 and kind == 2:
+            names = ["Tlas", "Blas"]
+        items = [(KINDS[kind] + " at action", position), *zip(names, figures)]
+    elif number in (21, 22):
+        *where, sort = SORTS[figures[0]]
+        items = [*zip(where, place), (sort, figures[1])]
+    else:
+        items = [*zip(PLACES.get(number, ("entry", "geometry")), place), *zip(names, figures)]
+    return f"refused {number}: " + ", ".join([words, *(f"{name} {value}" for name, value in items)]) + "\n"
+
+
+def told(data):
+    """The lines, and what they refuse."""
     answer = read(data)
     if answer[0]:
-        return line("sheet", *answer)
+        return line("sheet", *answer), ("sheet", answer[0], answer[1], ())
     alignment, counter, places = answer[2], answer[3], answer[4:]
     tables = [data[a : a + n * size] for a, n, size in zip(places[::2], places[1::2], SIZES)]
     built, outputs = build(alignment, tables[:8], ROOMS)
     text = line("build", *built[:6])
     if built[0]:
-        return text
+        return text, ("build", built[0], built[1:3], built[3:6])
     recorded = built[6] == 1
     entries, packages = places[9], places[13]
     lists = []
@@ -45,4 +128,14 @@ def printed(data):
     n = len(tables[3]) // 22
     (number, action, *figures), counter, *_ = submit(counter, tables[1], tables[3], [0] * n, [0] * (512 * n), cells, lists)
     action = positions[action] if number and positions else 0
-    return text + line("submit", number, action, *figures) + line("next", counter)
+    text += line("submit", number, action, *figures) + line("next", counter)
+    return text, ("action", number, (action, tables[8][3 * action]), figures) if number else None
+
+
+def printed(data):
+    return told(data)[0]
+
+
+def explained(data):
+    text, refusal = told(data)
+    return text + explanation(refusal)

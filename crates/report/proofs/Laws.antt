@@ -1,13 +1,15 @@
--- One more line, as a loop counts.
+-- One more line, as a loop counts; and a text that is written whole or not at all.
 use native.Mathlib.Omega.{arith}
 use borrow.Author.Tests.{lt-ltb, le-ltb}
 use lib.Seq.{sets, length-take-le}
 use Prim.Native.Nat.{ℕ, _+_, _-_, _*_, _≤_, _<_, zero, suc}
+use mathlib.Core.Bool.{cond}
 use mathlib.Core.Path.{_≡_, sym}
 use mathlib.Core.List.{List, [], _∷_, _++_}
+use lib.Dec.{ltb}
 use lib.ListN.{length, getD, take, length-append}
 use Rattle.ray_tracing.specs.Records.{entryAt, packageAt}
-use Rattle.ray_tracing.specs.Report.{word-blas, word-tlas, report, reporting, reportRule, reportBytes}
+use Rattle.ray_tracing.specs.Report.{word-blas, word-tlas, reporting}
 use Rattle.text.proofs.Laws.{line-most}
 use Rattle.ray_tracing.proofs.Plan.{left-more, left-none}
 use Rattle.report.specs.Parts.{blasLine, blasLinesOf, tlasLine, tlasLinesOf}
@@ -58,18 +60,23 @@ tlas-lines-most packages offsets ranges p (suc n) =
 pub count-is : (n : ℕ) (l : List ℕ) → n ≤ length l → n ≡ length (take n l)
 count-is n l h = sym (length-take-le n l h)
 
--- ---- the lines, if they fit
+-- ---- a text, if it fits
 
-module _ (s out : List ℕ) (n : ℕ) (e : n ≡ length (report s)) where
-  pub too-short : length out < n → (reporting 39 0 ≡ reportRule s (length out)) × (out ≡ reportBytes s out)
-  unfolding reportRule reportBytes
+module _ (text out : List ℕ) (n : ℕ) (e : n ≡ length text) where
+  pub too-short :
+      length out < n
+      → (reporting 39 0 ≡ cond (ltb (length out) (length text)) (reporting 39 0) (reporting 0 (length text)))
+      × (out ≡ cond (ltb (length out) (length text)) out (sets out 0 text))
   too-short h =
-      let l = lt-ltb (length out) (length (report s)) (rw e at h) in
+      let l = lt-ltb (length out) (length text) (rw e at h) in
       (rw l, rw l)
 
   pub all-written :
-      {after : List ℕ} → n ≤ length out → after ≡ sets out 0 (report s) → (reporting 0 n ≡ reportRule s (length out)) × (after ≡ reportBytes s out)
-  unfolding reportRule reportBytes
+      {after : List ℕ}
+      → n ≤ length out
+      → after ≡ sets out 0 text
+      → (reporting 0 n ≡ cond (ltb (length out) (length text)) (reporting 39 0) (reporting 0 (length text)))
+      × (after ≡ cond (ltb (length out) (length text)) out (sets out 0 text))
   all-written h f =
-      let l = le-ltb (length out) (length (report s)) (rw e at h) in
+      let l = le-ltb (length out) (length text) (rw e at h) in
       (rw (l, e), rw l f)

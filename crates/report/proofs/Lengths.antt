@@ -142,14 +142,23 @@ never-short s room h = rw (le-ltb room (length (report s)) (omega (arith, report
 
 -- ---- the first bytes of a sheet
 
--- of what is read of a long input, the first longest + 1 bytes print what the whole does
-pub report-prefix : (m : ℕ) (s : List ℕ) → longest < m → report (take m s) ≡ report s
-unfolding report
-report-prefix m s h = rw same (go (readSheet s) refl)
+-- of a long input the first longest + 1 bytes are enough for whatever of a refused sheet only the refusal tells
+pub prefix-tells :
+    {A : Type 0} (told : List ℕ → Reading → A)
+    → ((s t : List ℕ) (n p : ℕ) → told s (rejected n p) ≡ told t (rejected n p))
+    → (m : ℕ) (s : List ℕ)
+    → longest < m
+    → told (take m s) (readSheet (take m s)) ≡ told s (readSheet s)
+prefix-tells told refusals m s h = rw same (go (readSheet s) refl)
   where
     same : readSheet (take m s) ≡ readSheet s
     same = sym (prefix-decides (take m s)) ∙ ap readSheet (take-take (longest + 1) m s (omega arith)) ∙ prefix-decides s
 
-    go : (r : Reading) → readSheet s ≡ r → readingLines (take m s) r ≡ readingLines s r
-    go (rejected n p) e = refl
-    go (accepted x) e = ap (λ (t : List ℕ). readingLines t (accepted x)) (take-all m s (omega (arith, accepted-longest s x e)))
+    go : (r : Reading) → readSheet s ≡ r → told (take m s) r ≡ told s r
+    go (rejected n p) e = refusals (take m s) s n p
+    go (accepted x) e = ap (λ (t : List ℕ). told t (accepted x)) (take-all m s (omega (arith, accepted-longest s x e)))
+
+-- they print what the whole does
+pub report-prefix : (m : ℕ) (s : List ℕ) → longest < m → report (take m s) ≡ report s
+unfolding report
+report-prefix m s h = prefix-tells readingLines (λ s t n p. refl) m s h

@@ -1,5 +1,5 @@
-// Reads sheets from standard input, each after its length as a u32, and prints the lines of each. tests/make_report_cases.py makes sheets
-// and lines.
+// Reads sheets from standard input, each after its length as a u32, and prints the lines of each, and then its lines with their refusal
+// in words. tests/make_report_cases.py makes sheets and text.
 use libc::STDOUT_FILENO;
 use ray_tracing::Reported;
 
@@ -10,8 +10,11 @@ fn print(text: &[u8], n: usize) {
 }
 
 fn answer(sheet: &[u8]) {
-    let mut text = [0u8; 6134];
+    let mut text = [0u8; 6381];
     if let Reported::Written(n) = report::report(sheet, &mut text) {
+        print(&text, n);
+    }
+    if let Reported::Written(n) = explain::explain(sheet, &mut text) {
         print(&text, n);
     }
 }
