@@ -1,7 +1,7 @@
--- `capi::report_answer` meets its contract: each return is the definition's own case. Assumes nothing.
+-- `answers::report_answer` meets its contract: each return is the definition's own case. Assumes nothing.
 use borrow.Author.Needs.{needs}
-use Rattle.capi.proofs.report_answer.Statement.{statement}
-use Rattle.capi.proofs.report_answer.Tie as tie
+use Rattle.answers.proofs.report_answer.Statement.{statement}
+use Rattle.answers.proofs.report_answer.Tie as tie
 
 returns : tie.Need-returns
 returns c = rw (c .before .reported .given .1)

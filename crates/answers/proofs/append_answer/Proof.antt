@@ -1,7 +1,7 @@
--- `capi::append_answer` meets its contract: each return is the definition's own case. Assumes nothing.
+-- `answers::append_answer` meets its contract: each return is the definition's own case. Assumes nothing.
 use borrow.Author.Needs.{needs}
-use Rattle.capi.proofs.append_answer.Statement.{statement}
-use Rattle.capi.proofs.append_answer.Tie as tie
+use Rattle.answers.proofs.append_answer.Statement.{statement}
+use Rattle.answers.proofs.append_answer.Tie as tie
 
 returns : tie.Need-returns
 returns c = rw (c .before .appended .given .1)

@@ -1,7 +1,7 @@
--- `capi::sheet_answer` meets its contract: each return is the definition's own case. Assumes nothing.
+-- `answers::sheet_answer` meets its contract: each return is the definition's own case. Assumes nothing.
 use borrow.Author.Needs.{needs}
-use Rattle.capi.proofs.sheet_answer.Statement.{statement}
-use Rattle.capi.proofs.sheet_answer.Tie as tie
+use Rattle.answers.proofs.sheet_answer.Statement.{statement}
+use Rattle.answers.proofs.sheet_answer.Tie as tie
 
 returns : tie.Need-returns
 returns c = rw (c .before .before .read .given .1) (c .sheet-accepted .ensures)

@@ -1,7 +1,7 @@
--- `capi::build_answer` meets its contract: each return is the definition's own case. Assumes nothing.
+-- `answers::build_answer` meets its contract: each return is the definition's own case. Assumes nothing.
 use borrow.Author.Needs.{needs}
-use Rattle.capi.proofs.build_answer.Statement.{statement}
-use Rattle.capi.proofs.build_answer.Tie as tie
+use Rattle.answers.proofs.build_answer.Statement.{statement}
+use Rattle.answers.proofs.build_answer.Tie as tie
 
 returns : tie.Need-returns
 returns c = rw (c .before .before .built .given .1) (c .build-recorded .ensures)

@@ -1,17 +1,12 @@
 -- The exported answers as records of numbers: what the definitions' answers come to, unused fields 0. Assumes nothing.
-use Prim.Native.Nat.{ℕ}
-use mathlib.Core.List.{List}
 use Rattle.ray_tracing.specs.Reading.{Reading, accepted, rejected}
 use Rattle.ray_tracing.specs.Plan.{Answer, recorded, nothing-recorded, not-built}
 use Rattle.ray_tracing.specs.Instances.{Appending, inUse, refused}
 use Rattle.ray_tracing.specs.Report.{Reporting}
-use Rattle.actions.specs.Outcome.{lentOf}
-use Rattle.submission.specs.Numbers.{Told}
-use Rattle.capi.specs.declared.SheetAnswer.{SheetAnswer}
-use Rattle.capi.specs.declared.BuildAnswer.{BuildAnswer}
-use Rattle.capi.specs.declared.SubmitAnswer.{SubmitAnswer}
-use Rattle.capi.specs.declared.AppendAnswer.{AppendAnswer}
-use Rattle.capi.specs.declared.ReportAnswer.{ReportAnswer}
+use Rattle.answers.specs.declared.SheetAnswer.{SheetAnswer}
+use Rattle.answers.specs.declared.BuildAnswer.{BuildAnswer}
+use Rattle.answers.specs.declared.AppendAnswer.{AppendAnswer}
+use Rattle.answers.specs.declared.ReportAnswer.{ReportAnswer}
 
 -- "number, place", or where each section starts and how many records it has
 abbrev pub sheetAnswer : Reading → SheetAnswer
@@ -123,14 +118,6 @@ builtAnswer (not-built e f c) =
       «init_ranges» = 0;
       compactable = 0;
       lists = 0;
-    }
-
--- "number, action, two figures", with the counter and the four lent buffers that are left
-abbrev pub submitTold : SubmitAnswer → ℕ → List ℕ → List ℕ → List ℕ → List ℕ → Told
-submitTold a n b t c d =
-    record {
-      numbers = record { number = a .number; action = a .action; first = a .f0; second = a .f1 };
-      left = lentOf n b t c d;
     }
 
 -- the bytes in use, or the cause with its figures; E is 0, 0
