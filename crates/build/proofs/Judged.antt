@@ -15,8 +15,8 @@ use Rattle.validate.specs.declared.Judgement.{Judgement}
 use Rattle.validate.specs.declared.Judgement.the-variants as judgement
 use Rattle.validate.specs.Judging.{Judged, nothing, to-record, judgementOf, judgeBuild}
 use Rattle.validate.specs.Judging as judging
-use Rattle.plan.specs.Parts.{entriesIn}
-use Rattle.plan.specs.Ranges.{allRanges, DrawnFit}
+use Rattle.init_ranges.specs.Entries.{entriesIn}
+use Rattle.init_ranges.specs.Ranges.{allRanges, DrawnFit}
 use Rattle.plan.specs.Planned.{planned, Plannable, outputsOf}
 use Rattle.plan.proofs.Judged.{plan-is, geometries-drawn, plannable}
 use Rattle.build.specs.Room.{recordedIf, nothingIf, rangesLeft}

@@ -1,7 +1,7 @@
 // A build: all is judged before anything is written, so that a refusal changes no lent byte.
-use plan::count_ranges;
+use init_ranges::count_ranges;
+use init_ranges::write_init_ranges;
 use plan::counts;
-use plan::write_init_ranges;
 use plan::write_plan;
 use ray_tracing::BuildAccelerationStructureError;
 use ray_tracing::Built;
@@ -13,8 +13,8 @@ ghost use lib.ListN.{length};
 ghost use lib.Seq.{sets};
 ghost use Rattle.ray_tracing.specs.Plan.{answerOf, build, leaves};
 ghost use Rattle.ray_tracing.proofs.Inside.{tablesOf};
-ghost use Rattle.plan.specs.Parts.{entriesIn};
-ghost use Rattle.plan.specs.Ranges.{allRanges, DrawnFit};
+ghost use Rattle.init_ranges.specs.Entries.{entriesIn};
+ghost use Rattle.init_ranges.specs.Ranges.{allRanges, DrawnFit};
 ghost use Rattle.plan.specs.Planned.{planned, Plannable, outputsOf};
 ghost use Rattle.build.specs.Room.{shortOf, recordedIf, nothingIf, rangesLeft, outputsAfter};
 

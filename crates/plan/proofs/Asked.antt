@@ -20,7 +20,7 @@ use Rattle.ray_tracing.specs.Checks.{Checked, asks, refused, _then_, range, lim
 use Rattle.ray_tracing.specs.Triangles.{descriptorRule, indexSizesRule, verticesRule, indexWidth, lent, isLent, indexPart, transformPart, trianglesRule}
 use Rattle.ray_tracing.specs.Boxes.{boxesRule}
 use Rattle.ray_tracing.specs.Plan.{Tables, entryOf, geometryOf, blasOfEntry, declaredOf, checkedAt, checkedE, asked, passed}
-use Rattle.plan.specs.Ranges.{indexRange, transformRange, geometryRanges, Fits}
+use Rattle.init_ranges.specs.Ranges.{indexRange, transformRange, geometryRanges, Fits}
 
 refused-not : (c : Cause) (l : List ℕ) → refused c ≡ asks l → ⊥
 refused-not c l e = let z : _≡_ {A = ℕ} 0 1 = cc in omega arith

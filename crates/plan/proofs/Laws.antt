@@ -12,7 +12,7 @@ use Rattle.ray_tracing.specs.declared.Blas.{Blas}
 use Rattle.ray_tracing.specs.declared.TlasPackage.{TlasPackage}
 use Rattle.ray_tracing.specs.Plan.{Tables, entryOf, packageOf, slotCount, blasOfEntry, slotBlas, stagingFrom, compactableFrom, entryBlases, dependenciesFrom, packageLists}
 use Rattle.ray_tracing.specs.Instances.{presentOf}
-use Rattle.plan.proofs.Appending.{Next}
+use Rattle.init_ranges.proofs.Appending.{Next}
 use Rattle.plan.specs.Parts.{compactableOf, dependencyOf, packageList}
 use Rattle.ray_tracing.proofs.Plan.{left-more, left-none}
 

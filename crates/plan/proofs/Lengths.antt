@@ -11,8 +11,9 @@ use Rattle.ray_tracing.specs.Plan.{blasScratch, tlasScratch, entryBlases, packa
 use Rattle.ray_tracing.proofs.Inside.{slotsBefore, slots-none}
 use Rattle.ray_tracing.proofs.Instances.{slots-length}
 use Rattle.ray_tracing.proofs.Plan.{offsets-length, staging-length, blases-length, present-zero, packages-length}
-use Rattle.plan.specs.Parts.{ofEntries, ofPackages, entriesIn, packagesIn, slotsIn, Drawn}
-use Rattle.plan.specs.Ranges.{allRanges}
+use Rattle.init_ranges.specs.Entries.{ofEntries, entriesIn}
+use Rattle.plan.specs.Parts.{ofPackages, packagesIn, slotsIn, Drawn}
+use Rattle.init_ranges.specs.Ranges.{allRanges}
 use Rattle.plan.specs.Planned.{planned}
 
 module _ (packages slots : List ℕ) (d : Drawn packages slots) where

@@ -10,22 +10,8 @@ use Rattle.ray_tracing.specs.Records.{fieldAt, entryAt, packageAt}
 use Rattle.ray_tracing.proofs.Inside.{slotsBefore}
 use Rattle.instance.specs.Writable.{Writable}
 use Rattle.ray_tracing.specs.Instances.{presentOf}
+use Rattle.init_ranges.specs.Entries.{entriesIn}
 use Rattle.ray_tracing.specs.Plan.{Tables, entryOf, packageOf, blasOfEntry, slotCount, slotPresent, slotBlas, dependenciesFrom}
-
--- Blases and entries
-abbrev pub ofEntries : List ℕ → List ℕ → Tables
-ofEntries blases entries =
-    record {
-      alignment = 0;
-      buffers = [];
-      blases = blases;
-      declared = [];
-      tlases = [];
-      entries = entries;
-      geometries = [];
-      packages = [];
-      slots = [];
-    }
 
 -- Tlases, packages and slots
 abbrev pub ofPackages : List ℕ → List ℕ → List ℕ → Tables
@@ -41,10 +27,6 @@ ofPackages tlases packages slots =
       packages = packages;
       slots = slots;
     }
-
--- how many there are
-abbrev pub entriesIn : List ℕ → ℕ
-entriesIn entries = length entries / size 5
 
 abbrev pub packagesIn : List ℕ → ℕ
 packagesIn packages = length packages / size 7

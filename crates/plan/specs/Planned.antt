@@ -4,8 +4,9 @@ use mathlib.Core.List.{List, [], _++_}
 use lib.ListN.{length}
 use Rattle.ray_tracing.specs.Instances.{slotsBytes}
 use Rattle.ray_tracing.specs.Plan.{Outputs, blasScratch, tlasScratch, offsetsFrom, stagingFrom, compactableFrom, entryBlases, packageLists}
-use Rattle.plan.specs.Parts.{ofEntries, ofPackages, entriesIn, packagesIn, slotsIn, EntryBlases, PackageTlases, Drawn, AllWritable}
-use Rattle.plan.specs.Ranges.{allRanges, DrawnFit}
+use Rattle.init_ranges.specs.Entries.{ofEntries, entriesIn}
+use Rattle.plan.specs.Parts.{ofPackages, packagesIn, slotsIn, EntryBlases, PackageTlases, Drawn, AllWritable}
+use Rattle.init_ranges.specs.Ranges.{allRanges, DrawnFit}
 
 abbrev pub planned : ℕ → List ℕ → List ℕ → List ℕ → List ℕ → List ℕ → List ℕ → Outputs
 planned alignment blases tlases entries geometries packages slots =

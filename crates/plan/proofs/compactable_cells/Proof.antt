@@ -1,7 +1,7 @@
 -- `plan::compactable_cells` meets its contract: one cell if the flag is set, else none.
 use mathlib.Core.Path.{sym, ap}
 use lib.ListN.{length}
-use Rattle.plan.specs.Parts.{ofEntries}
+use Rattle.init_ranges.specs.Entries.{ofEntries}
 use Rattle.plan.proofs.Laws.{compactable-some, compactable-not}
 use borrow.Author.Needs.{needs}
 use Rattle.plan.proofs.compactable_cells.Statement.{statement}

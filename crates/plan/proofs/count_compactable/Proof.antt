@@ -4,9 +4,9 @@ use native.Mathlib.Nat.{sub-zero, zero-add}
 use mathlib.Core.Path.{_≡_, ap}
 use Prim.Native.Nat.{ℕ, _+_, _-_, _≤_}
 use lib.ListN.{length}
-use Rattle.plan.proofs.Appending.{counted}
+use Rattle.init_ranges.proofs.Appending.{counted}
 use Rattle.ray_tracing.specs.Plan.{compactableFrom}
-use Rattle.plan.specs.Parts.{ofEntries, entriesIn}
+use Rattle.init_ranges.specs.Entries.{ofEntries, entriesIn}
 use Rattle.plan.proofs.Laws.{compactable-more, compactable-none}
 use borrow.Author.Needs.{needs}
 use Rattle.plan.proofs.count_compactable.Statement.{statement}

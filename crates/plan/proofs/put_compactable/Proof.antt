@@ -1,5 +1,5 @@
 -- `plan::put_compactable` meets its contract: one cell if the flag is set, else none.
-use Rattle.plan.specs.Parts.{ofEntries}
+use Rattle.init_ranges.specs.Entries.{ofEntries}
 use native.Mathlib.Omega.{arith}
 use mathlib.Core.Path.{sym, ap, _∙_}
 use lib.ListN.{length, set}

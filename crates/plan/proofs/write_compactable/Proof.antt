@@ -1,9 +1,9 @@
 -- `plan::write_compactable` meets its contract. The invariant: what is left, written from here on, is the whole.
 use native.Mathlib.Nat.{zero-add, sub-zero}
 use Prim.Native.Nat.{_-_}
-use Rattle.plan.proofs.Appending.{Left, starts, room, turn, done}
+use Rattle.init_ranges.proofs.Appending.{Left, starts, room, turn, done}
 use Rattle.ray_tracing.specs.Plan.{compactableFrom}
-use Rattle.plan.specs.Parts.{ofEntries, entriesIn}
+use Rattle.init_ranges.specs.Entries.{ofEntries, entriesIn}
 use Rattle.plan.proofs.Laws.{compactable-more, compactable-none}
 use borrow.Author.Needs.{needs}
 use Rattle.plan.proofs.write_compactable.Statement.{statement}

@@ -1,7 +1,7 @@
 -- `plan::write_dependencies` meets its contract. The invariant: what is left, written from here on, is the whole.
 use native.Mathlib.Nat.{add-sub-cancel-left}
 use Prim.Native.Nat.{_+_, _-_, _≤_}
-use Rattle.plan.proofs.Appending.{Left, starts, room, turn, ended, done}
+use Rattle.init_ranges.proofs.Appending.{Left, starts, room, turn, ended, done}
 use Rattle.ray_tracing.specs.Plan.{dependenciesFrom}
 use Rattle.plan.proofs.Laws.{dependencies-more, dependencies-none}
 use borrow.Author.Needs.{needs}

@@ -5,9 +5,9 @@ use native.Mathlib.Nat.{sub-zero}
 use mathlib.Core.Path.{refl, ap}
 use mathlib.Core.List.{[]}
 use Prim.Native.Nat.{_-_}
-use Rattle.plan.proofs.Appending.{Left, starts, turn, done}
+use Rattle.init_ranges.proofs.Appending.{Left, starts, turn, done}
 use Rattle.ray_tracing.specs.Plan.{entryBlases}
-use Rattle.plan.specs.Parts.{ofEntries, entriesIn}
+use Rattle.init_ranges.specs.Entries.{ofEntries, entriesIn}
 use Rattle.plan.proofs.Laws.{blases-more, blases-none}
 use borrow.Author.Needs.{needs}
 use Rattle.plan.proofs.write_entry_blases.Statement.{statement}

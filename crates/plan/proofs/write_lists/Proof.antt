@@ -2,8 +2,9 @@
 use borrow.Author.Needs.{needs}
 use mathlib.Core.List.{[]}
 use Rattle.ray_tracing.specs.Plan.{entryBlases, packageLists}
-use Rattle.plan.specs.Parts.{ofEntries, ofPackages, entriesIn, packagesIn}
-use Rattle.plan.proofs.Appending.{both-written}
+use Rattle.init_ranges.specs.Entries.{ofEntries, entriesIn}
+use Rattle.plan.specs.Parts.{ofPackages, packagesIn}
+use Rattle.init_ranges.proofs.Appending.{both-written}
 use Rattle.ray_tracing.proofs.Plan.{blases-length}
 use Rattle.plan.proofs.write_lists.Statement.{statement}
 use Rattle.plan.proofs.write_lists.Tie as tie

@@ -4,7 +4,7 @@ use native.Mathlib.Nat.{sub-zero}
 use mathlib.Core.Path.{_≡_, refl, sym}
 use mathlib.Core.List.{[]}
 use Prim.Native.Nat.{_-_}
-use Rattle.plan.proofs.Appending.{Left, starts, room, turn, done}
+use Rattle.init_ranges.proofs.Appending.{Left, starts, room, turn, done}
 use Rattle.ray_tracing.specs.Plan.{packageLists}
 use Rattle.ray_tracing.proofs.Inside.{slotsBefore, slots-none, slots-more}
 use Rattle.plan.specs.Parts.{ofPackages, packagesIn}

@@ -5,7 +5,7 @@ use mathlib.Core.Path.{_≡_, sym, ap}
 use mathlib.Core.List.{[]}
 use Prim.Native.Nat.{ℕ, _+_, _-_, _*_, _≤_}
 use lib.ListN.{length-set}
-use Rattle.plan.proofs.Appending.{Left, starts, turn, done}
+use Rattle.init_ranges.proofs.Appending.{Left, starts, turn, done}
 use Rattle.ray_tracing.specs.Plan.{stagingFrom}
 use Rattle.ray_tracing.proofs.Inside.{slotsBefore, slots-none, slots-more}
 use Rattle.plan.specs.Parts.{ofPackages, packagesIn}
