@@ -92,15 +92,6 @@ pub present-tests :
     → (leb (leAt 1 s present) 1 || (boxes || eqb (leAt 2 s buffer) 65535)) ≡ presentFits s present buffer boxes
 present-tests s present buffer boxes = of-buffer (leb (leAt 1 s present) 1) boxes (eqb (leAt 2 s buffer) 65535)
 
--- what is known of r in the last arm of a `match` with the arms 0 to n - 1
-abbrev None : ℕ → ℕ → Type 0
-None r zero = Unit {0}
-None r (suc n) = None r n × (r ≡ n → ⊥)
-
-pub not-below : (r n : ℕ) → None r n → n ≤ r
-not-below r zero a = omega arith
-not-below r (suc n) a = omega (arith, not-below r n (a .0), a .1)
-
 -- a record that is counted is there
 pub record-there : (i n w : ℕ) → i < n / w → (0 < w) × (i * w + w ≤ n)
 record-there i n zero h = absurd (omega (arith, rw (div-zero n) at h))

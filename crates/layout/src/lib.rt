@@ -7,22 +7,42 @@ ghost use lib.Dec.{eqb};
 ghost use Rattle.ray_tracing.specs.Layout.{layout, size};
 ghost use Rattle.ray_tracing.specs.Reading.{sumOfCounts, addsUp};
 
-const SIZE: [usize; 10] = [12, 9, 28, 18, 22, 5, 44, 4, 56, 3];
-
-const MOST: [usize; 10] = [1, 256, 128, 512, 32, 64, 256, 32, 512, 64];
-
+// A record's size; the header stands as section 0.
 pub fn size_of(section: usize) -> usize
     requires { ⌜ section < 10 ⌝ }
     ensures { λ r. ⌜ r ≡ size section ⌝ }
 {
-    SIZE[section]
+    match section {
+        0 => 12,
+        1 => 9,
+        2 => 28,
+        3 => 18,
+        4 => 22,
+        5 => 5,
+        6 => 44,
+        7 => 4,
+        8 => 56,
+        _ => 3,
+    }
 }
 
+// The most records of a section.
 pub fn most_of(section: usize) -> usize
     requires { ⌜ section < 10 ⌝ }
     ensures { λ r. ⌜ r ≡ layout section .most ⌝ }
 {
-    MOST[section]
+    match section {
+        0 => 1,
+        1 => 256,
+        2 => 128,
+        3 => 512,
+        4 => 32,
+        5 => 64,
+        6 => 256,
+        7 => 32,
+        8 => 512,
+        _ => 64,
+    }
 }
 
 // How many records of `each` bytes there are; none, where a record has no bytes. A record's size is one of ten, and a number that is known

@@ -2,7 +2,8 @@
 use mathlib.Core.Bool.{or-false}
 use mathlib.Core.Path.{sym, _∙_}
 use borrow.Author.Needs.{needs}
-use Rattle.fitting.proofs.Laws.{not-below, of-triangles, of-buffer}
+use Rattle.layout.proofs.Laws.{not-below}
+use Rattle.fitting.proofs.Laws.{of-triangles, of-buffer}
 use Rattle.fields.proofs.Laws.{rule-past}
 use Rattle.fields.proofs.fits.Statement.{statement}
 use Rattle.fields.proofs.fits.Tie as tie

@@ -3,7 +3,7 @@ use Prim.Native.Nat.{ℕ}
 use native.Mathlib.Omega.{arith}
 use mathlib.Core.Path.{_≡_, refl}
 use Rattle.ray_tracing.specs.Reading.{begin}
-use Rattle.fitting.proofs.Laws.{not-below}
+use Rattle.layout.proofs.Laws.{not-below}
 use Rattle.fitting.proofs.record_fits.Statement.{statement}
 use Rattle.fitting.proofs.record_fits.Tie as tie
 
