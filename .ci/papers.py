@@ -33,6 +33,7 @@ ENTRY = {
     "validate_acceleration_structure_actions",
     "append_instance",
     "report",
+    "explain",
 }
 for source in sorted((root / "crates").glob("*/src/**/*.rt")):
     text = source.read_text(encoding="utf-8")

@@ -8,7 +8,7 @@ here = pathlib.Path(__file__).resolve().parent
 sys.path.insert(0, str(here.parent / "tests"))
 
 from make_read_cases import record, sheet, worked  # noqa: E402
-from printed import printed  # noqa: E402
+from printed import explanation, told  # noqa: E402
 from reading import NONE  # noqa: E402
 
 BUILD, USE, MARK_BLAS, MARK_TLAS = 1, 2, 3, 4
@@ -86,9 +86,10 @@ def main():
                 wrong.append(file.name)
         else:
             file.write_bytes(data)
-        if printed(data) not in readme:
+        text, refusal = told(data)
+        if text not in readme or explanation(refusal).strip() not in readme:
             wrong.append(f"what README.md has for {name}")
-            print(f"{name}:\n{printed(data)}")
+            print(f"{name}:\n{text}{explanation(refusal)}")
     for w in wrong:
         print(f"not as made: {w}")
     sys.exit(1 if wrong else 0)
