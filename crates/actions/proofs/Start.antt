@@ -1,21 +1,29 @@
 -- What a start that is not refused tells: an id inside its table fits its type, each list has its room, and each listed id is inside.
 use mathlib.Core.Path.{_≡_}
-use mathlib.Core.Option.{Option, none, some}
-use mathlib.Core.List.{List, []}
-use Prim.Native.Nat.{ℕ, _/_, _^_, _≤_, _<_}
+use mathlib.Core.Option.{none}
+use mathlib.Core.List.{List, [], _∷_}
+use Prim.Native.Nat.{ℕ, zero, suc, _/_, _^_, _≤_, _<_}
+use native.Mathlib.Omega.{arith}
+use native.Mathlib.Nat.{not-suc-le-zero}
 use lib.Dec.{ltb}
 use lib.ListN.{length, getD}
-use borrow.Author.Tests.{ltb-false, eq-eqb, ne-eqb}
-use Rattle.ray_tracing.specs.declared.Tlas.{Tlas}
+use borrow.Author.Tests.{ltb-false}
 use Rattle.ray_tracing.specs.Layout.{Layout, layout, size, total}
 use Rattle.ray_tracing.specs.Reading as reading
-use Rattle.ray_tracing.specs.Mentions.{tlasOf}
-use Rattle.ray_tracing.specs.Causes.{Cause, cause}
-use Rattle.ray_tracing.specs.Submission.{Lent, tlas, tlasIn, blasCount, tlasCount, dependenciesOf, judge, first, unusableBlas, unusable, mostDependencies}
+use Rattle.ray_tracing.specs.Submission.{Lent, mentionBlas, blasCount, tlasCount, dependenciesOf, judge, first, mostDependencies}
 use Rattle.ray_tracing.proofs.Reading.{or-fine, on-fine}
+use Rattle.ray_tracing.proofs.Firsts.{or-none, inside}
 use Rattle.ray_tracing.proofs.Sound.{sound}
 use Rattle.actions.specs.Known.{Inside, Room}
-use Rattle.actions.proofs.Judging.{ids-inside}
+
+-- ids that were judged stand in the table
+pub ids-inside : (l : Lent) (ids : List ℕ) → first (mentionBlas l) ids ≡ none → Inside ids (blasCount l)
+ids-inside l [] e k h = absurd (not-suc-le-zero h)
+ids-inside l (i ∷ is) e zero h =
+    let x = or-none (mentionBlas l i) (first (mentionBlas l) is) e in
+    inside (blasCount l) i (x .0)
+ids-inside l (i ∷ is) e (suc k) h =
+    ids-inside l is (or-none (mentionBlas l i) (first (mentionBlas l) is) e .1) k (omega arith)
 
 pub few-records : (k : ℕ) (l : Layout) (w : ℕ) (t s : List ℕ) → reading.judgeLent k l w t s ≡ reading.fine → length s / total (l .fields) ≤ l .most
 unfolding reading.judgeLent
@@ -40,15 +48,3 @@ ready l f e =
       few = s .short;
       inside = λ t h. ids-inside l (dependenciesOf l t) (s .lists t h);
     }
-
--- ---- a use
-
-pub tlas-number : (l : Lent) (t : ℕ) {r : Tlas} → r ≡ tlasOf (l .tlases) t → tlas l t .«built_index» ≡ r .«built_index»
-unfolding tlasIn
-tlas-number l t e = rw e
-
-pub unnumbered-use : (l : Lent) (t : ℕ) → tlas l t .«built_index» ≡ 0 → some (cause 43 t 0 0) ≡ unusable l t
-unnumbered-use l t e = rw (eq-eqb _ _ e)
-
-pub numbered-use : (l : Lent) (t : ℕ) {o : Option Cause} → ¬ (tlas l t .«built_index» ≡ 0) → o ≡ first (unusableBlas l t) (dependenciesOf l t) → o ≡ unusable l t
-numbered-use l t e p = rw (ne-eqb _ _ e) p

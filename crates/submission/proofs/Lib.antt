@@ -1,5 +1,2 @@
-pub mod Start
-pub mod Lists
-pub mod ByKind
-pub mod Running
+pub mod Told
 pub mod Demand

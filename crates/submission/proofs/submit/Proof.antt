@@ -1,6 +1,6 @@
 -- `submission::submit` meets its contract: each return is the definition's own case. Assumes nothing.
 use Rattle.actions.proofs.Walks.{nothing}
-use Rattle.submission.proofs.Running.{submission-refused, submission-runs}
+use Rattle.submission.proofs.Told.{submission-refused, submission-runs}
 use Rattle.actions.specs.Outcome.{lentOf}
 use borrow.Author.Needs.{needs}
 use Rattle.submission.proofs.submit.Statement.{statement}

@@ -1,5 +1,5 @@
 -- `submission::submit_numbers` meets its contract: each return is the definition's own case. Assumes nothing.
-use Rattle.submission.proofs.Running.{told-is}
+use Rattle.submission.proofs.Told.{told-is}
 use borrow.Author.Needs.{needs}
 use Rattle.submission.proofs.submit_numbers.Statement.{statement}
 use Rattle.submission.proofs.submit_numbers.Tie as tie

@@ -1,0 +1,2 @@
+pub mod Packages
+pub mod Judging
