@@ -26,13 +26,13 @@ ghost use Rattle.explain.specs.Lines.{kindBytes, letter, filled, past, s
 
 // What the letters of a line stand for: K the kind of an action; E and F a place, a byte's or an action's being E alone; X, Y and Z the
 // figures.
-pub struct Values {
-    pub kind: u8,
-    pub e: u64,
-    pub f: u64,
-    pub x: u64,
-    pub y: u64,
-    pub z: u64,
+struct Values {
+    kind: u8,
+    e: u64,
+    f: u64,
+    x: u64,
+    y: u64,
+    z: u64,
 }
 
 fn put_kind(out: &mut [u8], at: usize, kind: u8) -> usize
