@@ -398,6 +398,25 @@ fn micro(ns: f64) -> String {
     format!("{:.2} us", ns / 1000.0)
 }
 
+/// The least time of the program on a full sheet, from its start to its end, if it is built.
+fn program() -> String {
+    let sheet = tables(&FULL).sheet();
+    let path = "oracle/target/full.sheet";
+    if !std::path::Path::new("target/bin/zakvind").exists() || std::fs::write(path, &sheet).is_err() {
+        return "not built".into();
+    }
+    let least = (0..200)
+        .map(|_| {
+            let begin = Instant::now();
+            let input = std::fs::File::open(path).expect("the sheet was written");
+            let output = std::process::Command::new("target/bin/zakvind").stdin(input).output();
+            assert!(output.is_ok_and(|o| o.stdout.starts_with(b"build 0 ")));
+            begin.elapsed().as_secs_f64() * 1e9
+        })
+        .fold(f64::MAX, f64::min);
+    micro(least)
+}
+
 fn line_of(file: &str, word: &str) -> String {
     let text = std::fs::read_to_string(file).unwrap_or_default();
     text.lines().find(|l| l.starts_with(word)).and_then(|l| l.split(':').nth(1)).unwrap_or("not known").trim().to_string()
@@ -454,6 +473,7 @@ fn main() {
          looked at five times before its bytes are (its present byte, its id, its custom data and flags, and twice where present ones are \
          counted) and once more for the recorded list; the bytes themselves take one pass. An appended instance is a call of its own with an \
          answer of seven numbers, and its twelve numbers go through `f32`, with the patterns of NaNs beside them.\n\n\
+         The program `zakvind` on a full sheet, from its start to its end: {program}.\n\n\
          ## How it grows\n\n\
          | Work | Rust | Rust, made | Zakvind | ratio | made |\n|---|---|---|---|---|---|\n{growth}\n\
          ## What is timed\n\n\
@@ -478,6 +498,7 @@ fn main() {
         b = append.ours / copy,
         appended = micro(append.ours),
         stand_in = micro(append.rust),
+        program = program(),
     );
     for r in rows.iter().chain(&growth) {
         println!(
