@@ -1,9 +1,9 @@
 -- `entries::index_declared` meets its contract: before the pass reaches declared geometry i, the heads and the nexts are those of the declared geometries from i on.
 use native.Mathlib.Omega.{arith}
-use mathlib.Core.Path.{_≡_, refl, subst}
+use mathlib.Core.Path.{_≡_, refl, sym, subst}
 use Prim.Native.Nat.{ℕ, _+_, _-_, _≤_, _<_}
 use Rattle.entries.specs.Index.{declaredIn}
-use lib.ListN.{length, length-set}
+use lib.ListN.{length, getD, set, length-set}
 use Rattle.entries.proofs.Index.{HeadsFrom, NextsFrom, heads-start, heads-step, heads-end, nexts-step, nexts-end}
 use borrow.Author.Needs.{needs}
 use Rattle.entries.proofs.index_declared.Statement.{statement}
@@ -43,7 +43,7 @@ loop-less : tie.Need-loop-less Inv-loop μ-loop
 loop-less c = omega arith
 
 loop-again : tie.Need-loop-again Inv-loop μ-loop
-loop-again c = let l = c .before .before .loop in let t = c .before .before .before .before .args .declared .now in let k = l .i - 1 in let e : l .i ≡ k + 1 = omega arith in let h : k < declaredIn t = omega arith in let s = c .before .before .before .before .pre .small k h in let hs = subst (λ (n : ℕ). HeadsFrom t (l .head) n) e (l .inv .3) in let ns = subst (λ (n : ℕ). NextsFrom t (l .next) n) e (l .inv .4) in (omega arith, simp length-set (l .inv .1), simp length-set (l .inv .2), rw (c .u16-at .ensures) (heads-step t k h (l .head) (l .inv .1) s hs), rw (c .u16-at .ensures) (nexts-step t k h (l .next) _ (l .inv .2) (c .before .before .before .before .pre .few) (hs _ s) ns))
+loop-again c = let l = c .before .before .loop in let t = c .before .before .before .before .args .declared .now in let k = l .i - 1 in let e : l .i ≡ k + 1 = omega arith in let h : k < declaredIn t = omega arith in let s = c .before .before .before .before .pre .small k h in let hs = subst (λ (n : ℕ). HeadsFrom t (l .head) n) e (l .inv .3) in let ns = subst (λ (n : ℕ). NextsFrom t (l .next) n) e (l .inv .4) in (omega arith, simp length-set (l .inv .1), simp length-set (l .inv .2), rw (c .u16-at .ensures) (heads-step t k h (l .head) (l .inv .1) s hs), subst (λ (blas : ℕ). NextsFrom t (set (l .next) k (getD (l .head) blas 0)) k) (sym (c .u16-at .ensures)) (nexts-step t k h (l .next) _ (l .inv .2) (c .before .before .before .before .pre .few) (hs _ s) ns))
 
 returns : tie.Need-returns Inv-loop μ-loop
 returns c = let l = c .before .loop in let t = c .before .before .before .args .declared .now in let e : l .i ≡ 0 = omega arith in (heads-end t (l .head) (subst (λ (n : ℕ). HeadsFrom t (l .head) n) e (l .inv .3)), nexts-end t (l .next) (subst (λ (n : ℕ). NextsFrom t (l .next) n) e (l .inv .4)))

@@ -11,11 +11,11 @@ cast-count : tie.Need-cast-count
 cast-count c = omega (arith, c .shared-slice-known4 .given (c .before .before .before .before .before .args .tlas .0))
 
 returns : tie.Need-returns
-returns c = rw (lt-ltb _ _ (c .if1 .taken))
+returns c = rw (lt-ltb 512 _ (c .if1 .taken))
 
 returns-2 : tie.Need-returns-2
 unfolding listIn
-returns-2 c = rw (le-ltb _ _ (c .before .before .if1 .left)) (rw add-sub-cancel-left at (c .judge-ids .ensures))
+returns-2 c = rw (le-ltb 512 _ (c .before .before .if1 .left)) (rw add-sub-cancel-left at (c .judge-ids .ensures))
 
 pub judge-list-spec : {M : Type 1} → statement M
 judge-list-spec =
