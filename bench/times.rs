@@ -467,6 +467,8 @@ fn main() {
          Rust: from the same bytes and cells. Rust, made: on the Rust's own types, all made beforehand. A ratio is the Rust's time / \
          Zakvind's.\n\n\
          | What | Rust | Rust, made | Zakvind | ratio | made |\n|---|---|---|---|---|---|\n{rows}\n\
+         What keeps the small build about three times as fast and no more: whatever the tables hold, ours judges eight of them, a call each, and \
+         sets up its index of declared geometries, before the one entry.\n\n\
          Instance bytes against a plain memory copy of the same 32,768 bytes ({copied}): the build of one package of 512 slots, all \
          its judging included, takes {a:.2} times as long; 512 instances appended by one call each {b:.2} times ({appended}).\n\n\
          What keeps these from twice a copy: a refused build leaves every byte, so all is judged before anything is written, and each slot is \
