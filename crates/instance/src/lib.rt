@@ -27,7 +27,7 @@ ghost use lib.Ieee.{binary32, ofBits, nanBits};
 ghost use Rattle.ray_tracing.specs.Records.{fieldAt};
 ghost use Rattle.ray_tracing.specs.Causes.{bare};
 ghost use Rattle.ray_tracing.specs.Mentions.{mentionOf, blasOf};
-ghost use Rattle.ray_tracing.specs.Instances.{nanOf, bitsOf, patterns, words, tailBytes, instanceBytes, wordsAt, instanceFrom, presentAt, slotBytes, slotsBytes, presentOf, returnsVertices, instanceRule, namedInstanceRule, namedTlasRule, slotMention, slotRule, instanceCause, appendedOf, appendRule, appendBytes};
+ghost use Rattle.ray_tracing.specs.Instances.{nanOf, bitsOf, patterns, words, tailBytes, instanceBytes, instanceFrom, presentAt, slotBytes, slotsBytes, presentOf, returnsVertices, instanceRule, namedInstanceRule, namedTlasRule, slotMention, slotRule, instanceCause, appendedOf, appendRule, appendBytes};
 ghost use Rattle.instance.specs.Writable.{Writable};
 
 // A number, and the pattern that it was read from where that is a NaN's, else 0.
@@ -243,33 +243,7 @@ pub fn check_slot(tlas: Tlas, blases: &[u8], slots: &[u8], at: usize) -> Checked
     check_instance(tlas, blas_at(blases, id * 28), u32_at(slots, at + 3))
 }
 
-// A transform's numbers by their bits: all are read before one is written, so that four go at a time.
-fn words_at(s: &[u8], at: usize) -> [u32; 12]
-    requires { ⌜ at + 48 ≤ length (now s) ⌝ }
-    ensures { λ r. ⌜ r ≡ wordsAt 12 (now (s .entry)) at ⌝ }
-{
-    let mut ws = [0u32; 12];
-    let mut k = 0;
-    while k < 12 {
-        ws[k] = u32_at(s, at + 4 * k);
-        k += 1;
-    }
-    ws
-}
-
-fn put_words(out: &mut [u8], at: usize, ws: [u32; 12])
-    requires { ⌜ at + 48 ≤ length (now out) ⌝ }
-    ensures { λ _. ⌜ now (out .exit) ≡ sets (now (out .entry)) at (words ws) ⌝ }
-{
-    let mut k = 0;
-    while k < 12 {
-        put_u32(out, at + 4 * k, ws[k]);
-        k += 1;
-    }
-}
-
-// Writes what the slot at a place writes, from index end on, and returns the index past it. The slot's numbers are copied by their
-// bits, which gives the bytes of its instance, whatever the patterns.
+// Writes what the slot at a place writes, from index end on, and returns the index past it.
 fn put_slot(blases: &[u8], slots: &[u8], at: usize, instances: &mut [u8], end: usize) -> usize
     requires { ⌜ (at + 56 ≤ length (now slots)) × (end + length (slotBytes (now blases) (now slots) at) ≤ length (now instances)) ⌝ }
     requires { ⌜ ((fieldAt 8 (now slots) at 0 ≡ 0 → ⊥) → Writable (now blases) (now slots) at) ⌝ }
@@ -279,11 +253,9 @@ fn put_slot(blases: &[u8], slots: &[u8], at: usize, instances: &mut [u8], end: u
     if u8_at(slots, at) == 0 {
         return end;
     }
-    let address = address_of(blases, BlasId(u16_at(slots, at + 1)));
-    let custom_data = u32_at(slots, at + 3);
-    let mask = u8_at(slots, at + 7);
-    put_words(instances, end, words_at(slots, at + 8));
-    put_tail(instances, end + 48, custom_data, mask, address);
+    let instance = instance_from(slots, at + 1);
+    let address = address_of(blases, instance.blas);
+    put_instance(instances, end, instance, address);
     end + 64
 }
 

@@ -17,8 +17,7 @@ use Rattle.wire.proofs.Laws.{length-leBytes, leBytes-split, leBytes-low, leByte
 use Rattle.wire.proofs.Laws as wire
 use Rattle.ray_tracing.specs.declared.TlasInstance.{TlasInstance}
 use Rattle.ray_tracing.specs.Records.{fieldAt}
-use Rattle.ray_tracing.specs.Mentions.{blasOf}
-use Rattle.ray_tracing.specs.Instances.{nanOf, bitsOf, patterns, words, tailBytes, instanceBytes, VkAccelerationStructureInstanceKHR, vkInstance, vkBytes, wordsAt, instanceFrom, instanceAt, presentAt, addressFor, slotBytes, slotsBytes, presentOf}
+use Rattle.ray_tracing.specs.Instances.{nanOf, bitsOf, patterns, words, instanceBytes, VkAccelerationStructureInstanceKHR, vkInstance, vkBytes, wordsAt, instanceFrom, instanceAt, presentAt, addressFor, slotBytes, slotsBytes, presentOf}
 use Rattle.ray_tracing.proofs.Numbers.{bits-back}
 
 -- ---- u32s end to end
@@ -229,10 +228,6 @@ module _ (s : List ℕ) (at : ℕ) where
   unfolding instanceFrom
   slot-custom = ap (leAt 4 s) (add-assoc at 1 2)
 
-  pub slot-mask : instanceAt s at .mask ≡ fieldAt 8 s at 3
-  unfolding instanceFrom
-  slot-mask = ap (leAt 1 s) (add-assoc at 1 6)
-
   module _ (blases : List ℕ) where
     pub slot-none : fieldAt 8 s at 0 ≡ 0 → slotBytes blases s at ≡ []
     unfolding slotBytes
@@ -241,15 +236,6 @@ module _ (s : List ℕ) (at : ℕ) where
     pub slot-some : (fieldAt 8 s at 0 ≡ 0 → ⊥) → slotBytes blases s at ≡ instanceBytes (instanceAt s at) (addressFor blases (instanceAt s at))
     unfolding slotBytes
     slot-some h = rw (ne-eqb (fieldAt 8 s at 0) 0 h)
-
-    -- field by field of the layout
-    pub slot-copied : Below s → (fieldAt 8 s at 0 ≡ 0 → ⊥)
-        → slotBytes blases s at ≡ words (wordsAt 12 s (at + 8)) ++ tailBytes (fieldAt 8 s at 2) (fieldAt 8 s at 3) (blasOf blases (fieldAt 8 s at 1) .handle)
-    unfolding instanceBytes
-    slot-copied b h =
-        let matrix = patterns-read s (at + 1) b ∙ ap (wordsAt 12 s) (add-assoc at 1 7) in
-        let address = ap (λ (id : ℕ). blasOf blases id .handle) slot-blas in
-        slot-some h ∙ (λ j. words (matrix j) ++ tailBytes (slot-custom j) (slot-mask j) (address j))
 
     pub slot-some-length : (fieldAt 8 s at 0 ≡ 0 → ⊥) → length (slotBytes blases s at) ≡ 64
     slot-some-length h = ap length (slot-some h) ∙ from-length s (at + 1) (addressFor blases (instanceAt s at))
