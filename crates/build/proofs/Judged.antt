@@ -11,14 +11,14 @@ use Rattle.ray_tracing.specs.Causes.{Cause, bare, buildCause}
 use Rattle.ray_tracing.specs.Plan.{Tables, Verdict, passed, refused, on, _or_, judgeTables, judgeIds, judgeEntries, judgePackages, judgeFinal, scratchSize, Outputs, planOf, tooShort, short, countsOf, Answer, recorded, nothing-recorded, not-built, unless, build, leaves}
 use Rattle.ray_tracing.proofs.Verdicts.{or-passed}
 use Rattle.ray_tracing.proofs.Inside.{Inside, inside}
-use Rattle.validate.specs.declared.Judgement.{Judgement}
-use Rattle.validate.specs.declared.Judgement.the-variants as judgement
-use Rattle.validate.specs.Judging.{Judged, nothing, to-record, judgementOf, judgeBuild}
-use Rattle.validate.specs.Judging as judging
-use Rattle.init_ranges.specs.Entries.{entriesIn}
-use Rattle.init_ranges.specs.Ranges.{allRanges, DrawnFit}
-use Rattle.plan.specs.Planned.{planned, Plannable, outputsOf}
-use Rattle.plan.proofs.Judged.{plan-is, geometries-drawn, plannable}
+use Rattle.build_judge.specs.declared.Judgement.{Judgement}
+use Rattle.build_judge.specs.declared.Judgement.the-variants as judgement
+use Rattle.build_judge.specs.Judging.{Judged, nothing, to-record, judgementOf, judgeBuild}
+use Rattle.build_judge.specs.Judging as judging
+use Rattle.build_ranges.specs.Entries.{entriesIn}
+use Rattle.build_ranges.specs.Ranges.{allRanges, DrawnFit}
+use Rattle.build_plan.specs.Planned.{planned, Plannable, outputsOf}
+use Rattle.build_plan.proofs.Judged.{plan-is, geometries-drawn, plannable}
 use Rattle.build.specs.Room.{recordedIf, nothingIf, rangesLeft}
 
 -- ---- over plain values: v is judged first, z is no scratch, w is judged last, then y

@@ -9,7 +9,7 @@ use borrow.Author.Tests.{lt-ltb, le-ltb, ltb-false}
 use Rattle.ray_tracing.specs.declared.Written.{Written}
 use Rattle.ray_tracing.specs.Causes.{bare}
 use Rattle.ray_tracing.specs.Plan.{Outputs, countsOf, tooShort, short, recorded, nothing-recorded, not-built}
-use Rattle.plan.specs.Planned.{Room}
+use Rattle.build_plan.specs.Planned.{Room}
 use Rattle.build.specs.Room.{shortOf, recordedIf, nothingIf}
 
 or-left : (a b : Bool) → (a || b) ≡ false → a ≡ false

@@ -1,21 +1,21 @@
 // A build: all is judged before anything is written, so that a refusal changes no lent byte.
-use init_ranges::count_ranges;
-use init_ranges::write_init_ranges;
-use plan::counts;
-use plan::write_plan;
+use build_judge::Judgement;
+use build_judge::judge_build;
+use build_plan::counts;
+use build_plan::write_plan;
+use build_ranges::count_ranges;
+use build_ranges::write_init_ranges;
 use ray_tracing::BuildAccelerationStructureError;
 use ray_tracing::Built;
 use ray_tracing::Written;
-use validate::Judgement;
-use validate::judge_build;
 ghost use mathlib.Core.Path.{_≡_};
 ghost use lib.ListN.{length};
 ghost use lib.Seq.{sets};
 ghost use Rattle.ray_tracing.specs.Plan.{answerOf, build, leaves};
 ghost use Rattle.ray_tracing.proofs.Inside.{tablesOf};
-ghost use Rattle.init_ranges.specs.Entries.{entriesIn};
-ghost use Rattle.init_ranges.specs.Ranges.{allRanges, DrawnFit};
-ghost use Rattle.plan.specs.Planned.{planned, Plannable, outputsOf};
+ghost use Rattle.build_ranges.specs.Entries.{entriesIn};
+ghost use Rattle.build_ranges.specs.Ranges.{allRanges, DrawnFit};
+ghost use Rattle.build_plan.specs.Planned.{planned, Plannable, outputsOf};
 ghost use Rattle.build.specs.Room.{shortOf, recordedIf, nothingIf, rangesLeft, outputsAfter};
 
 // Whether an output is too short: what would be written, and what is lent.

@@ -1,8 +1,8 @@
 -- What an exported submission tells, and what is left. Assumes nothing.
 use Prim.Native.Nat.{ℕ}
 use mathlib.Core.List.{List}
-use Rattle.actions.specs.Outcome.{lentOf}
-use Rattle.submission.specs.Numbers.{Told}
+use Rattle.submit_checks.specs.Outcome.{lentOf}
+use Rattle.submit.specs.Numbers.{Told}
 use Rattle.capi.specs.declared.SubmitAnswer.{SubmitAnswer}
 
 -- "number, action, two figures", with the counter and the four lent buffers that are left

@@ -1,20 +1,20 @@
 // The entry points as C functions of a static library: each forwards, and says its answer in numbers.
-use answers::AppendAnswer;
-use answers::BuildAnswer;
-use answers::ReportAnswer;
-use answers::SheetAnswer;
-use answers::append_answer;
-use answers::build_answer;
-use answers::report_answer;
-use answers::sheet_answer;
 use build::build_acceleration_structures;
+use capi_answers::AppendAnswer;
+use capi_answers::BuildAnswer;
+use capi_answers::ReportAnswer;
+use capi_answers::SheetAnswer;
+use capi_answers::append_answer;
+use capi_answers::build_answer;
+use capi_answers::report_answer;
+use capi_answers::sheet_answer;
 use instance::append_instance;
 use instance::instance_from;
 use ray_tracing::TlasId;
 use report::report;
 use sheet::read_sheet;
-use submission::CommandIndices;
-use submission::submit_numbers;
+use submit::CommandIndices;
+use submit::submit_numbers;
 ghost use mathlib.Core.Path.{_≡_};
 ghost use lib.ListN.{length};
 ghost use Rattle.ray_tracing.specs.Reading.{readSheet};
@@ -23,11 +23,11 @@ ghost use Rattle.ray_tracing.specs.Instances.{instanceFrom, appendRule, appendB
 ghost use Rattle.ray_tracing.specs.Submission.{submission, decode};
 ghost use Rattle.ray_tracing.specs.Report.{reportRule, reportBytes};
 ghost use Rattle.ray_tracing.proofs.Inside.{tablesOf};
-ghost use Rattle.actions.specs.Outcome.{lentOf};
-ghost use Rattle.submission.specs.Numbers.{pieceOf, told};
-ghost use Rattle.plan.specs.Planned.{outputsOf};
+ghost use Rattle.submit_checks.specs.Outcome.{lentOf};
+ghost use Rattle.submit.specs.Numbers.{pieceOf, told};
+ghost use Rattle.build_plan.specs.Planned.{outputsOf};
 ghost use Rattle.build.specs.Room.{outputsAfter};
-ghost use Rattle.answers.specs.Answers.{sheetAnswer, builtAnswer, appendAnswer, reportAnswer};
+ghost use Rattle.capi_answers.specs.Answers.{sheetAnswer, builtAnswer, appendAnswer, reportAnswer};
 ghost use Rattle.capi.specs.Told.{submitTold};
 
 #[repr(C)]

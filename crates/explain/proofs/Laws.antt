@@ -7,7 +7,7 @@ use mathlib.Core.List.{List, [], _∷_, _++_}
 use lib.ListN.{length, take, drop, getD, length-drop}
 use lib.Seq.{take-all}
 use borrow.Author.Tests.{eq-eqb, ne-eqb}
-use Rattle.text.proofs.Laws.{rest-more, rest-none}
+use Rattle.report_text.proofs.Laws.{rest-more, rest-none}
 use Rattle.explain.specs.declared.Values.{Values}
 use Rattle.explain.specs.Lines.{letter, filled, past}
 

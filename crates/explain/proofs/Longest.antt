@@ -33,7 +33,7 @@ use Rattle.ray_tracing.specs.Explain.{
   explained,
   explainRule,
 }
-use Rattle.text.proofs.Laws.{digits-most}
+use Rattle.report_text.proofs.Laws.{digits-most}
 use Rattle.report.proofs.Lengths.{report-most, prefix-tells, report-prefix}
 use Rattle.explain.specs.Longest.{longestItem, longestExplanation, longestExplained}
 

@@ -9,10 +9,10 @@ use ray_tracing::SheetError;
 use ray_tracing::ValidateAsActionsError;
 use ray_tracing::pick;
 use report::put_report;
-use submit_lines::Refusal;
-use text::put;
-use text::put_byte;
-use text::put_decimal;
+use report_submit::Refusal;
+use report_text::put;
+use report_text::put_byte;
+use report_text::put_decimal;
 ghost use mathlib.Core.Path.{_≡_};
 ghost use Prim.Native.Nat.{_+_, _≤_};
 ghost use lib.ListN.{length, drop};
@@ -20,8 +20,8 @@ ghost use Rattle.ray_tracing.specs.Causes.{sheetNumber, buildCause, submissionC
 ghost use Rattle.ray_tracing.specs.Report.{reportedOf};
 ghost use Rattle.ray_tracing.specs.Explain.{of-sheet, of-build, of-action, explanation, explained, explainRule, explainBytes};
 ghost use Rattle.causes.specs.Figures.{causeOf};
-ghost use Rattle.text.specs.Put.{Put};
-ghost use Rattle.submit_lines.specs.Refused.{refusalOf};
+ghost use Rattle.report_text.specs.Put.{Put};
+ghost use Rattle.report_submit.specs.Refused.{refusalOf};
 ghost use Rattle.explain.specs.Lines.{kindBytes, letter, filled, past, sheetLines, buildLines, actionLines, placeOfBuild, placeOfAction};
 
 // What the letters of a line stand for: K the kind of an action; E and F a place, a byte's or an action's being E alone; X, Y and Z the

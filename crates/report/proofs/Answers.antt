@@ -16,8 +16,8 @@ use Rattle.ray_tracing.proofs.Inside.{Inside}
 use Rattle.ray_tracing.proofs.Plan.{offsets-length, staging-length}
 use Rattle.ray_tracing.proofs.PlanLaws.{judged, facts}
 use Rattle.wire.proofs.Laws.{sets-within}
-use Rattle.submit_lines.specs.Parts.{listing, submissionOutcome, submissionLines}
-use Rattle.submit_lines.specs.Refused.{submissionRefusal}
+use Rattle.report_submit.specs.Parts.{listing, submissionOutcome, submissionLines}
+use Rattle.report_submit.specs.Refused.{submissionRefusal}
 use Rattle.report.specs.Parts.{blasLinesOf, tlasLinesOf, answerLinesOf, answerRefusalOf, tableLines, tableRefusal}
 use Rattle.report.proofs.Room.{Roomy, build-with-room, lists-room}
 

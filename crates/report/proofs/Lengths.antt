@@ -42,7 +42,7 @@ use Rattle.ray_tracing.specs.Report.{
 }
 use Rattle.ray_tracing.proofs.Sheets.{lent-tells, accepted-lent}
 use Rattle.ray_tracing.proofs.Longest.{prefix-decides, accepted-longest}
-use Rattle.text.proofs.Laws.{line-most}
+use Rattle.report_text.proofs.Laws.{line-most}
 
 pub longest-report-is : longestReport ≡ 6134
 longest-report-is = refl

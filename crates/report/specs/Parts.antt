@@ -9,8 +9,8 @@ use Rattle.ray_tracing.specs.Causes.{bare}
 use Rattle.ray_tracing.specs.Plan.{Tables, Outputs, Answer, recorded, nothing-recorded, not-built, planOf, build}
 use Rattle.ray_tracing.specs.Report.{line, word-scratch, word-blas, word-tlas, buildLine, answerLines}
 use Rattle.ray_tracing.specs.Explain.{Refusal, of-build, answerRefusal}
-use Rattle.submit_lines.specs.Parts.{entriesIn, packagesIn, submissionLines}
-use Rattle.submit_lines.specs.Refused.{submissionRefusal}
+use Rattle.report_submit.specs.Parts.{entriesIn, packagesIn, submissionLines}
+use Rattle.report_submit.specs.Refused.{submissionRefusal}
 
 -- `blasLines` with the entries as bytes and the offsets as cells
 abbrev pub blasLine : List ℕ → List ℕ → ℕ → List ℕ

@@ -42,21 +42,21 @@ use denote.Triple.Table.{entered, cited}
 use denote.Triple.Walked.{says, needs, Stays, stay-ref, stay-none, gave-slice, stay-none-slice, walkOf, AllGo, goes-ref, goes-none, goes-gave-slice, goes-none-slice, Walks, ends-at, walked, walk-meets}
 use denote.Exit.{yes}
 use Rattle.ray_tracing.specs.Submission.{submission, decode}
-use Rattle.actions.specs.Outcome.{lentOf}
-use Rattle.submission.specs.Numbers.{pieceOf, told, toldOf}
-use Rattle.submission.specs.declared.CommandIndices.{CommandIndices}
-use Rattle.submission.specs.declared.Validated.{Validated}
-use Rattle.submission.proofs.CommandIndices as T
-use Rattle.submission.proofs.CommandIndices.Laws as T′
-use Rattle.submission.proofs.Validated as S
-use Rattle.submission.proofs.Validated.Laws as S′
+use Rattle.submit_checks.specs.Outcome.{lentOf}
+use Rattle.submit.specs.Numbers.{pieceOf, told, toldOf}
+use Rattle.submit.specs.declared.CommandIndices.{CommandIndices}
+use Rattle.submit.specs.declared.Validated.{Validated}
+use Rattle.submit.proofs.CommandIndices as T
+use Rattle.submit.proofs.CommandIndices.Laws as T′
+use Rattle.submit.proofs.Validated as S
+use Rattle.submit.proofs.Validated.Laws as S′
 use Rattle.capi.specs.declared.SubmitAnswer.{SubmitAnswer}
 use Rattle.capi.proofs.SubmitAnswer as U
 use Rattle.capi.proofs.SubmitAnswer.Laws as U′
-use Rattle.submission.proofs.submit_numbers as step
-use Rattle.submission.proofs.submit_numbers.Symbol as step-def
-use Rattle.submission.proofs.submit_numbers.Symbol.{name as #step}
-use Rattle.submission.proofs.submit_numbers.Met as step-thm
+use Rattle.submit.proofs.submit_numbers as step
+use Rattle.submit.proofs.submit_numbers.Symbol as step-def
+use Rattle.submit.proofs.submit_numbers.Symbol.{name as #step}
+use Rattle.submit.proofs.submit_numbers.Met as step-thm
 use Rattle.capi.proofs.zakvind_submit.Key.{name as #wrapper}
 use Rattle.capi.proofs.zakvind_submit as f
 use Rattle.capi.proofs.zakvind_submit.Statement as stated

@@ -3,7 +3,7 @@ use native.Mathlib.Omega.{arith}
 use mathlib.Core.Path.{ap}
 use Rattle.ray_tracing.specs.Causes.{bare}
 use Rattle.ray_tracing.specs.Plan.{answerOf}
-use Rattle.text.proofs.Laws.{put-then, put-same-length}
+use Rattle.report_text.proofs.Laws.{put-then, put-same-length}
 use Rattle.report.proofs.Lengths.{build-most}
 use Rattle.report.proofs.Laws.{count-is}
 use borrow.Author.Needs.{needs}

@@ -51,10 +51,10 @@ use Rattle.sheet.proofs.SectionReader as T
 use Rattle.sheet.proofs.SectionReader.Laws as T′
 use Rattle.ray_tracing.proofs.Judged as S
 use Rattle.ray_tracing.proofs.Judged.Laws as S′
-use Rattle.sections.proofs.judge_section as judge-section
-use Rattle.sections.proofs.judge_section.Symbol as judge-section-def
-use Rattle.sections.proofs.judge_section.Symbol.{name as #sections·judge-section}
-use Rattle.sections.proofs.judge_section.Met as judge-section-thm
+use Rattle.sheet_sections.proofs.judge_section as judge-section
+use Rattle.sheet_sections.proofs.judge_section.Symbol as judge-section-def
+use Rattle.sheet_sections.proofs.judge_section.Symbol.{name as #sections·judge-section}
+use Rattle.sheet_sections.proofs.judge_section.Met as judge-section-thm
 use Rattle.sheet.proofs.SectionReader.section.Key.{name as #sheet·section}
 use Rattle.sheet.proofs.SectionReader.section as section
 use Rattle.sheet.proofs.SectionReader.section.Statement as stated
