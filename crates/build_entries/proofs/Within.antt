@@ -10,7 +10,7 @@ use Rattle.ray_tracing.specs.declared.BlasGeometrySizeDescriptor.{BlasGeometryS
 use Rattle.ray_tracing.specs.Checks.{Checked}
 use Rattle.ray_tracing.specs.Plan.{Tables, recordsIn, entryOf, geometryOf, geometryCount, blasOfEntry, declaredOf, checkedAt}
 use Rattle.ray_tracing.proofs.Inside.{Named, Inside, drawnBefore}
-use Rattle.build_ids.specs.Lent.{forEntries}
+use Rattle.ray_tracing.specs.Parts.{forEntries}
 use Rattle.build_entries.specs.Index.{Indexable}
 use Rattle.build_entries.specs.Kinds.{byKind}
 use Rattle.build_entries.specs.Within.{GeometryInside, EntriesInside}

@@ -9,7 +9,7 @@ use Rattle.ray_tracing.specs.declared.BlasGeometrySizeDescriptor.{BlasGeometryS
 use Rattle.ray_tracing.specs.declared.BlasGeometry.{BlasGeometry}
 use Rattle.ray_tracing.specs.Mentions.{bufferOf}
 use Rattle.ray_tracing.specs.Checks.{Checked}
-use Rattle.ray_tracing.specs.Triangles.{lent, trianglesRule}
+use Rattle.ray_tracing.specs.Triangles.{unlessNone, trianglesRule}
 use Rattle.ray_tracing.specs.Boxes.{boxesRule}
 
 abbrev pub byKind : List ℕ → ℕ → Blas → Option BlasGeometrySizeDescriptor → BlasGeometry → Checked
@@ -20,6 +20,6 @@ byKind buffers kind blas declared g =
     declared
     g
     (bufferOf buffers (g .buffer .0))
-    (lent (bufferOf buffers) (g .«index_buffer» .0))
-    (lent (bufferOf buffers) (g .«transform_buffer» .0)))
+    (unlessNone (bufferOf buffers) (g .«index_buffer» .0))
+    (unlessNone (bufferOf buffers) (g .«transform_buffer» .0)))
     (boxesRule blas declared g (bufferOf buffers (g .buffer .0)))

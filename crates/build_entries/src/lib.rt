@@ -22,11 +22,11 @@ ghost use Prim.Native.Nat.{ℕ, _+_, _*_, _/_, _≤_, _<_};
 ghost use lib.ListN.{length};
 ghost use Rattle.ray_tracing.specs.Layout.{size};
 ghost use Rattle.ray_tracing.specs.Mentions.{bufferOf};
-ghost use Rattle.ray_tracing.specs.Checks.{declaredOf, lentOf, checkedOf};
-ghost use Rattle.ray_tracing.specs.Triangles.{lent};
-ghost use Rattle.ray_tracing.specs.Plan.{verdictOf, firstOf, firstDrawing, entryOf, geometryCount, checkedAt, checkedE, judgeEntry, judgeEntries};
+ghost use Rattle.ray_tracing.specs.Code.{checkedOf, bufferGiven, declaredGiven, verdictOf};
+ghost use Rattle.ray_tracing.specs.Triangles.{unlessNone};
+ghost use Rattle.ray_tracing.specs.Plan.{firstOf, firstDrawing, entryOf, geometryCount, checkedAt, checkedE, judgeEntry, judgeEntries};
 ghost use Rattle.ray_tracing.proofs.Inside.{Named};
-ghost use Rattle.build_ids.specs.Lent.{forEntries};
+ghost use Rattle.ray_tracing.specs.Parts.{forEntries};
 ghost use Rattle.build_entries.specs.Index.{Indexable, Heads, Nexts, nthOf, following, standing};
 ghost use Rattle.build_entries.specs.Kinds.{byKind};
 ghost use Rattle.build_entries.specs.Within.{GeometryInside, EntriesInside};
@@ -84,7 +84,7 @@ fn next_declared(declared: &[u8], next: &[u16; 512], at: usize) -> usize
 }
 
 fn declared_standing(declared: &[u8], at: usize) -> Declared
-    ensures { λ r. ⌜ declaredOf r ≡ standing (now (declared .entry)) at ⌝ }
+    ensures { λ r. ⌜ declaredGiven r ≡ standing (now (declared .entry)) at ⌝ }
 {
     if at < declared.len() / 18 {
         return Declared::Given(declared_at(declared, at * 18));
@@ -95,7 +95,7 @@ fn declared_standing(declared: &[u8], at: usize) -> Declared
 // The buffer of an id that may be none.
 fn given_buffer(buffers: &[u8], id: BufferId) -> GivenBuffer
     requires { ⌜ Named (id .0) (length (now buffers) / size 1) ⌝ }
-    ensures { λ r. ⌜ lentOf r ≡ lent (bufferOf (now (buffers .entry))) (id .0) ⌝ }
+    ensures { λ r. ⌜ bufferGiven r ≡ unlessNone (bufferOf (now (buffers .entry))) (id .0) ⌝ }
 {
     if id.0 == 65535 {
         return GivenBuffer::Absent;
@@ -114,7 +114,7 @@ fn check_geometry(
     requires { ⌜ g .buffer .0 < length (now buffers) / size 1 ⌝ }
     requires { ⌜ (kind ≡ 0 → Named (g .«index_buffer» .0) (length (now buffers) / size 1)) × (kind ≡ 0 → Named (g .«transform_buffer» .0) (length (now buffers) / size 1)) ⌝ }
     ensures { λ r. ⌜
-        checkedOf r ≡ byKind (now (buffers .entry)) kind blas (declaredOf declared) g
+        checkedOf r ≡ byKind (now (buffers .entry)) kind blas (declaredGiven declared) g
         ⌝ }
 {
     let id = g.buffer;

@@ -11,7 +11,7 @@ use Rattle.ray_tracing.specs.declared.TlasPackage.{TlasPackage}
 use Rattle.ray_tracing.specs.Records.{entryAt, packageAt}
 use Rattle.ray_tracing.specs.Causes.{cause, bare}
 use Rattle.ray_tracing.specs.Plan.{Verdict, passed, refused, on, _or_, blasOfEntry, tlasOfPackage, tlasDestroyed, blasBuildable}
-use Rattle.build_ids.specs.Lent.{forEntries, forPackages}
+use Rattle.ray_tracing.specs.Parts.{forPackages, forEntries}
 
 module _ (tlases packages : List ℕ) (p : ℕ) {built : TlasPackage} {tlas : Tlas} (e : built ≡ packageAt packages (p * 4)) (t : tlas ≡ tlasOfPackage (forPackages [] tlases packages []) p) where
   pub tlas-refused :

@@ -16,9 +16,9 @@ ghost use lib.ListN.{length};
 ghost use lib.Dec.{eqb};
 ghost use Rattle.ray_tracing.specs.Layout.{size};
 ghost use Rattle.ray_tracing.specs.Causes.{cause, bare};
-ghost use Rattle.ray_tracing.specs.Plan.{verdictOf, refused, on, _or_, firstOf, tlasDestroyed, blasBuildable, packageOf, entryOf};
-ghost use Rattle.build_ids.specs.Lent.{forEntries, forPackages};
-ghost use Rattle.build_ids.specs.Named.{EntriesNamed, PackagesNamed};
+ghost use Rattle.ray_tracing.specs.Plan.{refused, on, _or_, firstOf, tlasDestroyed, blasBuildable, packageOf, entryOf};
+ghost use Rattle.ray_tracing.specs.Code.{verdictOf};
+ghost use Rattle.ray_tracing.specs.Parts.{forPackages, forEntries, PackagesNamed, EntriesNamed};
 
 // The Tlas of package p is not destroyed.
 fn tlas_destroyed(tlases: &[u8], packages: &[u8], p: usize) -> Verdict

@@ -1,7 +1,8 @@
 -- What the answers of the parts of a check mean. Assumes nothing.
 use mathlib.Core.List.{[]}
 use Rattle.ray_tracing.specs.Causes.{buildCause}
-use Rattle.ray_tracing.specs.Checks.{Checked, asks, refused, rangeOf, askedOf}
+use Rattle.ray_tracing.specs.Checks.{Checked, asks, refused}
+use Rattle.ray_tracing.specs.Code.{askedOf, rangeOf}
 use Rattle.build_geometry.specs.declared.Sizes.{Sizes}
 use Rattle.build_geometry.specs.declared.Sizes.the-variants as sizes
 use Rattle.build_geometry.specs.declared.Vertices.{Vertices}

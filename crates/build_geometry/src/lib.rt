@@ -18,7 +18,8 @@ ghost use Prim.Native.Nat.{_+_, _*_, _%_, _≤_};
 ghost use lib.Dec.{ltb};
 ghost use Rattle.scratch.specs.Scratch.{stopped};
 ghost use Rattle.ray_tracing.specs.Guard.{neb};
-ghost use Rattle.ray_tracing.specs.Checks.{_then_, declaredOf, lentOf, checkedOf};
+ghost use Rattle.ray_tracing.specs.Checks.{_then_};
+ghost use Rattle.ray_tracing.specs.Code.{checkedOf, bufferGiven, declaredGiven};
 ghost use Rattle.ray_tracing.specs.Triangles.{descriptorRule, indexSizesRule, verticesRule, indexWidth, indexRegionRule, indicesRule, transformRule, isLent, indexPart, transformPart, trianglesRule};
 ghost use Rattle.ray_tracing.specs.Boxes.{regionRule, givenRule, boxesRule};
 ghost use Rattle.build_geometry.specs.Parts.{sizesOf, verticesOf, partOf};
@@ -254,7 +255,7 @@ fn check_transform(flags: u8, g: BlasGeometry, transform: Buffer) -> Part
 
 // With an index buffer, its checks.
 fn index_part(g: BlasGeometry, index: GivenBuffer) -> Part
-    ensures { λ r. ⌜ partOf r ≡ indexPart g (lentOf index) ⌝ }
+    ensures { λ r. ⌜ partOf r ≡ indexPart g (bufferGiven index) ⌝ }
 {
     match index {
         GivenBuffer::Absent => Part::Fine(Asked::Nothing),
@@ -264,7 +265,7 @@ fn index_part(g: BlasGeometry, index: GivenBuffer) -> Part
 
 // With a transform buffer, its checks; without, 30.
 fn transform_part(flags: u8, g: BlasGeometry, transform: GivenBuffer) -> Part
-    ensures { λ r. ⌜ partOf r ≡ transformPart flags g (lentOf transform) ⌝ }
+    ensures { λ r. ⌜ partOf r ≡ transformPart flags g (bufferGiven transform) ⌝ }
 {
     match transform {
         GivenBuffer::Absent => {
@@ -311,7 +312,7 @@ fn sizes_first(a: Sizes, b: Sizes, buffers: CheckedGeometry) -> CheckedGeometry
 }
 
 fn is_given(index: GivenBuffer) -> bool
-    ensures { λ r. ⌜ r ≡ isLent (lentOf index) ⌝ }
+    ensures { λ r. ⌜ r ≡ isLent (bufferGiven index) ⌝ }
 {
     match index {
         GivenBuffer::Absent => false,
@@ -328,7 +329,7 @@ fn check_given(
     index: GivenBuffer,
     transform: GivenBuffer,
 ) -> CheckedGeometry
-    ensures { λ r. ⌜ checkedOf r ≡ (descriptorRule d g then indexSizesRule d g (isLent (lentOf index)) then verticesRule g vertices then indexPart g (lentOf index) then transformPart flags g (lentOf transform)) ⌝ }
+    ensures { λ r. ⌜ checkedOf r ≡ (descriptorRule d g then indexSizesRule d g (isLent (bufferGiven index)) then verticesRule g vertices then indexPart g (bufferGiven index) then transformPart flags g (bufferGiven transform)) ⌝ }
 {
     let descriptor = check_descriptor(d, g);
     let has_buffer = is_given(index);
@@ -348,7 +349,7 @@ pub fn check_triangles(
     index: GivenBuffer,
     transform: GivenBuffer,
 ) -> CheckedGeometry
-    ensures { λ r. ⌜ checkedOf r ≡ trianglesRule blas (declaredOf declared) g vertices (lentOf index) (lentOf transform) ⌝ }
+    ensures { λ r. ⌜ checkedOf r ≡ trianglesRule blas (declaredGiven declared) g vertices (bufferGiven index) (bufferGiven transform) ⌝ }
 {
     if blas.kind != 0 {
         return CheckedGeometry::Refused(Error::BlasGeometryKindMismatch);
@@ -430,7 +431,7 @@ pub fn check_aabbs(
     g: BlasGeometry,
     boxes: Buffer,
 ) -> CheckedGeometry
-    ensures { λ r. ⌜ checkedOf r ≡ boxesRule blas (declaredOf declared) g boxes ⌝ }
+    ensures { λ r. ⌜ checkedOf r ≡ boxesRule blas (declaredGiven declared) g boxes ⌝ }
 {
     if blas.kind != 1 {
         return CheckedGeometry::Refused(Error::BlasGeometryKindMismatch);

@@ -14,7 +14,7 @@ use Rattle.ray_tracing.specs.Mentions.{bufferMention, blasMention, tlasMention}
 use Rattle.ray_tracing.specs.Instances.{slotMention}
 use Rattle.ray_tracing.specs.Plan.{Verdict, passed, refused, _or_, atE, firstOf, geometryCount, slotCount, geometryIds, entryIds, slotIds, packageIds}
 use Rattle.ray_tracing.proofs.Verdicts.{or-none}
-use Rattle.build_ids.specs.Lent.{forEntries, forPackages}
+use Rattle.ray_tracing.specs.Parts.{forPackages, forEntries}
 
 -- the first of two, by what was found of the first
 

@@ -16,10 +16,11 @@ ghost use Prim.Native.Nat.{_+_, _*_, _/_, _≤_};
 ghost use lib.ListN.{length};
 ghost use lib.Dec.{eqb};
 ghost use Rattle.ray_tracing.specs.Layout.{size};
-ghost use Rattle.ray_tracing.specs.Mentions.{mentionOf, bufferMention};
-ghost use Rattle.ray_tracing.specs.Plan.{verdictOf, _or_, atE, firstOf, firstDrawing, geometryCount, slotCount, geometryIds, entryIds, slotIds, packageIds, judgeIds};
-ghost use Rattle.ray_tracing.proofs.Inside.{tablesOf, drawnBefore, slotsBefore};
-ghost use Rattle.build_ids.specs.Lent.{forEntries, forPackages};
+ghost use Rattle.ray_tracing.specs.Mentions.{bufferMention};
+ghost use Rattle.ray_tracing.specs.Code.{mentionOf, verdictOf};
+ghost use Rattle.ray_tracing.specs.Plan.{_or_, atE, firstOf, firstDrawing, geometryCount, slotCount, geometryIds, entryIds, slotIds, packageIds, judgeIds, tablesOf};
+ghost use Rattle.ray_tracing.proofs.Inside.{drawnBefore, slotsBefore};
+ghost use Rattle.ray_tracing.specs.Parts.{forPackages, forEntries};
 
 // The first of two.
 pub fn first(a: Verdict, b: Verdict) -> Verdict

@@ -24,14 +24,14 @@ use Rattle.ray_tracing.specs.Plan.{
   short,
   tooShort,
   countsOf,
-  Answer,
+  Building,
   recorded,
   nothing-recorded,
   build,
 }
 use Rattle.ray_tracing.specs.Plan as plan
 use Rattle.ray_tracing.proofs.Verdicts.{or-passed}
-use Rattle.build_judge.specs.Judging.{Judged, not-built, nothing, to-record, unless, judgeRecords, judgeBuild}
+use Rattle.build_judge.specs.Judging.{BuildJudged, not-built, nothing, to-record, judgedUnless, judgeToPackages, judgeBuild}
 
 -- what is judged in any case passed, part by part
 pub record Passed (x : Tables) : Type 0 where
@@ -43,8 +43,8 @@ pub record Passed (x : Tables) : Type 0 where
 -- the three ends of judging
 
 module _ (r : Verdict) (b : Bool) (v : Verdict) (n : ℕ) where
-  abbrev ended : Judged
-  ended = unless r (cond b nothing (unless v (to-record n)))
+  abbrev ended : BuildJudged
+  ended = judgedUnless r (cond b nothing (judgedUnless v (to-record n)))
 
 none-passed : (r : Verdict) (b : Bool) (v : Verdict) (n : ℕ) → ended r b v n ≡ nothing → (r ≡ passed) × (b ≡ true)
 none-passed passed true v n e = (refl, refl)
@@ -77,15 +77,15 @@ record-passed (refused i f c) b v n m e =
 
 module _ (x : Tables) (o : Outputs) where
   -- "nothing recorded, only initialisation ranges written (39 if short)"
-  abbrev pub nothingIn : Answer
+  abbrev pub nothingIn : Building
   nothingIn =
       plan.unless (on (short (planOf x .«init_ranges») (o .«init_ranges»)) (refused 0 0 (bare 39))) (nothing-recorded (length (planOf x .«init_ranges»)))
 
   -- "Last: 39"
-  abbrev pub recordedIn : ℕ → Answer
+  abbrev pub recordedIn : ℕ → Building
   recordedIn n = plan.unless (on (tooShort (planOf x) o) (refused 0 0 (bare 39))) (recorded n (countsOf (planOf x)))
 
-  abbrev answered : Judged → Answer
+  abbrev answered : BuildJudged → Building
   answered (not-built e f c) = plan.not-built e f c
   answered nothing = nothingIn
   answered (to-record n) = recordedIn n
@@ -100,7 +100,7 @@ module _ (x : Tables) (o : Outputs) where
   answered-end (refused i f c) b v n = refl
 
   pub build-answered : build x o ≡ answered (judgeBuild x)
-  unfolding build judgeBuild judgeRecords
+  unfolding build judgeBuild judgeToPackages
   build-answered = answered-end (judgeTables x or judgeIds x or judgeEntries x or judgePackages x) (eqb (scratchSize x) 0) (judgeFinal x) (scratchSize x)
 
   -- each of the three
@@ -115,8 +115,8 @@ module _ (x : Tables) (o : Outputs) where
   answer-recorded n h = build-answered ∙ rw h
 
 module _ (x : Tables) where
-  records-passed : judgeRecords x ≡ passed → Passed x
-  unfolding judgeRecords
+  records-passed : judgeToPackages x ≡ passed → Passed x
+  unfolding judgeToPackages
   records-passed h =
       let a = or-passed (judgeTables x) _ h in
       let b = or-passed (judgeIds x) _ (a .1) in
@@ -125,14 +125,14 @@ module _ (x : Tables) where
 
   pub nothing-passed : judgeBuild x ≡ nothing → Passed x
   unfolding judgeBuild
-  nothing-passed h = records-passed (none-passed (judgeRecords x) (eqb (scratchSize x) 0) (judgeFinal x) (scratchSize x) h .0)
+  nothing-passed h = records-passed (none-passed (judgeToPackages x) (eqb (scratchSize x) 0) (judgeFinal x) (scratchSize x) h .0)
 
   pub recorded-passed : (n : ℕ) → judgeBuild x ≡ to-record n → Passed x
   unfolding judgeBuild
-  recorded-passed n h = records-passed (record-passed (judgeRecords x) (eqb (scratchSize x) 0) (judgeFinal x) (scratchSize x) n h .0)
+  recorded-passed n h = records-passed (record-passed (judgeToPackages x) (eqb (scratchSize x) 0) (judgeFinal x) (scratchSize x) n h .0)
 
   pub recorded-final : (n : ℕ) → judgeBuild x ≡ to-record n → (judgeFinal x ≡ passed) × (n ≡ scratchSize x)
   unfolding judgeBuild
   recorded-final n h =
-      let r = record-passed (judgeRecords x) (eqb (scratchSize x) 0) (judgeFinal x) (scratchSize x) n h in
+      let r = record-passed (judgeToPackages x) (eqb (scratchSize x) 0) (judgeFinal x) (scratchSize x) n h in
       (r .2, r .3)

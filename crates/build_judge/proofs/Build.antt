@@ -8,30 +8,13 @@ use lib.ListN.{length}
 use lib.Dec.{eqb}
 use borrow.Author.Tests.{eq-eqb, ne-eqb}
 use Rattle.ray_tracing.specs.Causes.{Cause, bare}
-use Rattle.ray_tracing.specs.Plan.{
-  Tables,
-  Verdict,
-  passed,
-  refused,
-  on,
-  _or_,
-  firstOf,
-  judgeTables,
-  judgeIds,
-  judgeEntries,
-  judgePackages,
-  scratchSize,
-  tlasDestroyed,
-  blasBuildable,
-  judgeFinal,
-}
+use Rattle.ray_tracing.specs.Plan.{Tables, Verdict, passed, refused, on, _or_, firstOf, judgeTables, judgeIds, judgeEntries, judgePackages, scratchSize, tlasDestroyed, blasBuildable, judgeFinal, tablesOf}
 use Rattle.ray_tracing.proofs.Verdicts.{or-passed}
-use Rattle.ray_tracing.proofs.Inside.{tablesOf, drawnBefore, slotsBefore, Inside, inside, tables-drawn, tables-slots}
-use Rattle.build_ids.specs.Lent.{forEntries, forPackages}
-use Rattle.build_ids.specs.Named.{EntriesNamed, PackagesNamed}
+use Rattle.ray_tracing.proofs.Inside.{drawnBefore, slotsBefore, Inside, inside, tables-drawn, tables-slots}
+use Rattle.ray_tracing.specs.Parts.{forPackages, forEntries, PackagesNamed, EntriesNamed}
 use Rattle.build_packages.specs.Within.{PackagesInside}
 use Rattle.build_ids.proofs.Laws.{or-first, or-second}
-use Rattle.build_judge.specs.Judging.{not-built, nothing, to-record, judgeRecords, judgeBuild}
+use Rattle.build_judge.specs.Judging.{not-built, nothing, to-record, judgeToPackages, judgeBuild}
 
 module _ (x : Tables) where
   -- what judging ids and packages reads of the tables
@@ -72,13 +55,13 @@ module _ (x : Tables) where
 
   -- ---- tables, ids, entries, packages
 
-  pub tables-refused : {t : Verdict} (e f : ℕ) (c : Cause) → t ≡ judgeTables x → t ≡ refused e f c → t ≡ judgeRecords x
-  unfolding judgeRecords
+  pub tables-refused : {t : Verdict} (e f : ℕ) (c : Cause) → t ≡ judgeTables x → t ≡ refused e f c → t ≡ judgeToPackages x
+  unfolding judgeToPackages
   tables-refused e f c p q = or-first _ e f c p q
 
   module _ {t : Verdict} (p : t ≡ judgeTables x) (q : t ≡ passed) where
-    pub ids-refused : {i : Verdict} (e f : ℕ) (c : Cause) → i ≡ judgeIds idsPart → i ≡ refused e f c → i ≡ judgeRecords x
-    unfolding judgeRecords
+    pub ids-refused : {i : Verdict} (e f : ℕ) (c : Cause) → i ≡ judgeIds idsPart → i ≡ refused e f c → i ≡ judgeToPackages x
+    unfolding judgeToPackages
     ids-refused e f c r s = or-second p q (or-first _ e f c (r ∙ ids-part) s)
 
     pub records-judged :
@@ -88,15 +71,15 @@ module _ (x : Tables) where
         → v ≡ (e or k)
         → e ≡ judgeEntries (forEntries (x .buffers) (x .blases) (x .declared) (x .entries) (x .geometries))
         → k ≡ judgePackages packagesPart
-        → v ≡ judgeRecords x
-    unfolding judgeRecords
+        → v ≡ judgeToPackages x
+    unfolding judgeToPackages
     records-judged r s v e k =
         or-second p q (or-second (r ∙ ids-part) s (v ∙ (λ j. (e ∙ entries-part) j or (k ∙ packages-part) j)))
 
   -- ---- after them
 
-  pub records-inside : judgeRecords x ≡ passed → Inside x
-  unfolding judgeRecords
+  pub records-inside : judgeToPackages x ≡ passed → Inside x
+  unfolding judgeToPackages
   records-inside h =
       let a = or-passed (judgeTables x) _ h in
       let b = or-passed (judgeIds x) _ (a .1) in
@@ -126,11 +109,11 @@ module _ (x : Tables) where
   unfolding judgeFinal
   final-part e = ap finalPart e
 
-  pub build-refused : (e f : ℕ) (c : Cause) → judgeRecords x ≡ refused e f c → not-built e f c ≡ judgeBuild x
+  pub build-refused : (e f : ℕ) (c : Cause) → judgeToPackages x ≡ refused e f c → not-built e f c ≡ judgeBuild x
   unfolding judgeBuild
   build-refused e f c h = rw h
 
-  module _ (h : judgeRecords x ≡ passed) {n : ℕ} (s : n ≡ scratchSize scratchPart) where
+  module _ (h : judgeToPackages x ≡ passed) {n : ℕ} (s : n ≡ scratchSize scratchPart) where
     pub build-nothing : n ≡ 0 → nothing ≡ judgeBuild x
     unfolding judgeBuild
     build-nothing z = rw (h, eq-eqb (scratchSize x) 0 (sym (s ∙ scratch-part) ∙ z))

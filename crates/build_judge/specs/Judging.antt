@@ -20,25 +20,25 @@ use Rattle.build_judge.specs.declared.Judgement.{Judgement}
 use Rattle.build_judge.specs.declared.Judgement.the-variants as judgement
 
 -- refused, with E; nothing to record; or to be recorded, with the scratch size
-pub data Judged : Type 0 where
-  not-built : ℕ → ℕ → Cause → Judged
-  nothing : Judged
-  to-record : ℕ → Judged
+pub data BuildJudged : Type 0 where
+  not-built : ℕ → ℕ → Cause → BuildJudged
+  nothing : BuildJudged
+  to-record : ℕ → BuildJudged
 
-abbrev pub judgementOf : Judgement → Judged
+abbrev pub judgementOf : Judgement → BuildJudged
 judgementOf (judgement.Refused c e f) = not-built e f (buildCause c)
 judgementOf judgement.Nothing = nothing
 judgementOf (judgement.ToRecord n) = to-record n
 
-abbrev pub unless : Verdict → Judged → Judged
-unless passed j = j
-unless (refused e f c) j = not-built e f c
+abbrev pub judgedUnless : Verdict → BuildJudged → BuildJudged
+judgedUnless passed j = j
+judgedUnless (refused e f c) j = not-built e f c
 
 -- what is judged in any case
-unfoldable pub judgeRecords : Tables → Verdict
-judgeRecords x = judgeTables x or judgeIds x or judgeEntries x or judgePackages x
+unfoldable pub judgeToPackages : Tables → Verdict
+judgeToPackages x = judgeTables x or judgeIds x or judgeEntries x or judgePackages x
 
 -- "Larger total 0: accepted, nothing recorded": what comes after the packages is not judged then
-unfoldable pub judgeBuild : Tables → Judged
+unfoldable pub judgeBuild : Tables → BuildJudged
 judgeBuild x =
-    unless (judgeRecords x) (cond (eqb (scratchSize x) 0) nothing (unless (judgeFinal x) (to-record (scratchSize x))))
+    judgedUnless (judgeToPackages x) (cond (eqb (scratchSize x) 0) nothing (judgedUnless (judgeFinal x) (to-record (scratchSize x))))

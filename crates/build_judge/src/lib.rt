@@ -9,9 +9,9 @@ use build_totals::scratch_size;
 use ray_tracing::BuildAccelerationStructureError;
 use ray_tracing::Verdict;
 ghost use mathlib.Core.Path.{_≡_};
-ghost use Rattle.ray_tracing.specs.Plan.{verdictOf};
-ghost use Rattle.ray_tracing.proofs.Inside.{tablesOf};
-ghost use Rattle.build_judge.specs.Judging.{judgementOf, judgeRecords, judgeBuild};
+ghost use Rattle.ray_tracing.specs.Code.{verdictOf};
+ghost use Rattle.ray_tracing.specs.Plan.{tablesOf};
+ghost use Rattle.build_judge.specs.Judging.{judgementOf, judgeToPackages, judgeBuild};
 
 // What judging finds: the first refusal, with E; nothing to record; or a build to record, with its scratch size, if there is room.
 pub enum Judgement {
@@ -34,7 +34,7 @@ fn judge_records(
 ) -> Verdict
     ensures { λ r. ⌜
         verdictOf r
-        ≡ judgeRecords
+        ≡ judgeToPackages
         (tablesOf
         alignment
         (now (buffers .entry))

@@ -14,7 +14,7 @@ use Rattle.ray_tracing.specs.Causes.{Cause, cause, bare, buildCause}
 use Rattle.ray_tracing.specs.Mentions.{blasMention}
 use Rattle.ray_tracing.specs.Instances.{presentOf, slotMention, slotRule}
 use Rattle.ray_tracing.specs.Plan.{Tables, Verdict, passed, refused, on, _or_, atE, firstOf, slotCount, slotPresent, slotBlas, tlasOfPackage, judgePackage}
-use Rattle.build_ids.specs.Lent.{forPackages}
+use Rattle.ray_tracing.specs.Parts.{forPackages}
 use Rattle.ray_tracing.proofs.Causes.{positive}
 
 pub instance-none : (e f n : ℕ) → bare 0 ≡ bare n → passed ≡ atE e f n

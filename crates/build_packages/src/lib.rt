@@ -15,9 +15,10 @@ ghost use lib.ListN.{length};
 ghost use lib.Dec.{ltb};
 ghost use Rattle.ray_tracing.specs.Layout.{size};
 ghost use Rattle.ray_tracing.specs.Causes.{cause, bare};
-ghost use Rattle.ray_tracing.specs.Instances.{slotMention, slotRule, instanceCause};
-ghost use Rattle.ray_tracing.specs.Plan.{verdictOf, refused, on, atE, firstOf, slotCount, judgePackage, judgePackages, packageOf};
-ghost use Rattle.build_ids.specs.Lent.{forPackages};
+ghost use Rattle.ray_tracing.specs.Instances.{slotMention, slotRule};
+ghost use Rattle.ray_tracing.specs.Code.{instanceCause, verdictOf};
+ghost use Rattle.ray_tracing.specs.Plan.{refused, on, atE, firstOf, slotCount, judgePackage, judgePackages, packageOf};
+ghost use Rattle.ray_tracing.specs.Parts.{forPackages};
 ghost use Rattle.build_packages.specs.Within.{PackagesInside};
 
 // What judging an instance finds, at E.

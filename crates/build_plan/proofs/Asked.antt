@@ -17,10 +17,10 @@ use Rattle.ray_tracing.specs.Causes.{Cause}
 use Rattle.ray_tracing.specs.Guard.{refuse}
 use Rattle.ray_tracing.specs.Mentions.{bufferOf}
 use Rattle.ray_tracing.specs.Checks.{Checked, asks, refused, _then_, range, limit32}
-use Rattle.ray_tracing.specs.Triangles.{descriptorRule, indexSizesRule, verticesRule, indexWidth, lent, isLent, indexPart, transformPart, trianglesRule}
+use Rattle.ray_tracing.specs.Triangles.{descriptorRule, indexSizesRule, verticesRule, indexWidth, unlessNone, isLent, indexPart, transformPart, trianglesRule}
 use Rattle.ray_tracing.specs.Boxes.{boxesRule}
 use Rattle.ray_tracing.specs.Plan.{Tables, entryOf, geometryOf, blasOfEntry, declaredOf, checkedAt, checkedE, asked, passed}
-use Rattle.build_ranges.specs.Ranges.{indexRange, transformRange, geometryRanges, Fits}
+use Rattle.build_ranges.specs.Ranges.{indexRange, transformRange, geometryRanges, RangesFit}
 
 refused-not : (c : Cause) (l : List ℕ) → refused c ≡ asks l → ⊥
 refused-not c l e = let z : _≡_ {A = ℕ} 0 1 = cc in omega arith
@@ -76,7 +76,7 @@ vertices-asked g b l e =
 
 index-asked :
     (g : BlasGeometry) (buffer : ℕ → Buffer) (l : List ℕ)
-    → indexPart g (lent buffer (g .«index_buffer» .0)) ≡ asks l
+    → indexPart g (unlessNone buffer (g .«index_buffer» .0)) ≡ asks l
     → l ≡ indexRange 0 g
 index-asked g buffer l e = go (eqb (g .«index_buffer» .0) 65535) e
   where
@@ -98,7 +98,7 @@ index-asked g buffer l e = go (eqb (g .«index_buffer» .0) 65535) e
 
 transform-asked :
     (flags : ℕ) (g : BlasGeometry) (buffer : ℕ → Buffer) (l : List ℕ)
-    → transformPart flags g (lent buffer (g .«transform_buffer» .0)) ≡ asks l
+    → transformPart flags g (unlessNone buffer (g .«transform_buffer» .0)) ≡ asks l
     → ((g .«transform_buffer» .0 ≡ 65535 → ⊥) → g .«transform_buffer_offset» ≤ limit32) × (l ≡ transformRange 0 g)
 transform-asked flags g buffer l e = go (eqb (g .«transform_buffer» .0) 65535) refl e
   where
@@ -131,14 +131,14 @@ pub record Asked (kind : ℕ) (g : BlasGeometry) (size : ℕ) (l : List ℕ) : T
 
 triangles-asked :
     (blas : Blas) (declared : Option BlasGeometrySizeDescriptor) (g : BlasGeometry) (b : Buffer) (buffer : ℕ → Buffer) (l : List ℕ)
-    → trianglesRule blas declared g b (lent buffer (g .«index_buffer» .0)) (lent buffer (g .«transform_buffer» .0)) ≡ asks l
+    → trianglesRule blas declared g b (unlessNone buffer (g .«index_buffer» .0)) (unlessNone buffer (g .«transform_buffer» .0)) ≡ asks l
     → Asked 0 g (b .size) l
 triangles-asked blas none g b buffer l e = absurd (refused-not _ l (past _ _ _ l e .1))
 triangles-asked blas (some d) g b buffer l e =
     let p = both (descriptorRule d g) _ l (past _ _ _ l e .1) in
-    let q = both (indexSizesRule d g (isLent (lent buffer (g .«index_buffer» .0)))) _ (p .rest) (p .of-rest) in
+    let q = both (indexSizesRule d g (isLent (unlessNone buffer (g .«index_buffer» .0)))) _ (p .rest) (p .of-rest) in
     let r = both (verticesRule g b) _ (q .rest) (q .of-rest) in
-    let s = both (indexPart g (lent buffer (g .«index_buffer» .0))) _ (r .rest) (r .of-rest) in
+    let s = both (indexPart g (unlessNone buffer (g .«index_buffer» .0))) _ (r .rest) (r .of-rest) in
     let v = vertices-asked g b (r .first) (r .of-first) in
     let t = transform-asked (blas .flags) g buffer (s .rest) (s .of-rest) in
     let i = index-asked g buffer (s .first) (s .of-first) in
@@ -147,7 +147,7 @@ triangles-asked blas (some d) g b buffer l e =
           p .whole
           ∙ ap (λ (a : List ℕ). a ++ p .rest) (descriptor-none d g (p .first) (p .of-first))
           ∙ q .whole
-          ∙ ap (λ (a : List ℕ). a ++ q .rest) (index-sizes-none d g (isLent (lent buffer (g .«index_buffer» .0))) (q .first) (q .of-first))
+          ∙ ap (λ (a : List ℕ). a ++ q .rest) (index-sizes-none d g (isLent (unlessNone buffer (g .«index_buffer» .0))) (q .first) (q .of-first))
           ∙ r .whole
           ∙ (λ j. v .1 j ++ (s .whole ∙ (λ k. i k ++ t .1 k)) j);
       vertices = λ z. v .0;
@@ -196,8 +196,8 @@ module _ (x : Tables) (i j g : ℕ) (e : checkedE i j (checkedAt x i j g) ≡ pa
           (declaredOf x (entryOf x i .blas .0) j)
           (geometryOf x g)
           (bufferOf (x .buffers) (geometryOf x g .buffer .0))
-          (lent (bufferOf (x .buffers)) (geometryOf x g .«index_buffer» .0))
-          (lent (bufferOf (x .buffers)) (geometryOf x g .«transform_buffer» .0))
+          (unlessNone (bufferOf (x .buffers)) (geometryOf x g .«index_buffer» .0))
+          (unlessNone (bufferOf (x .buffers)) (geometryOf x g .«transform_buffer» .0))
 
       boxes : Checked
       boxes =
@@ -218,13 +218,13 @@ module _ (x : Tables) (i j g : ℕ) (e : checkedE i j (checkedAt x i j g) ≡ pa
       go (refused c) f h = let z : _≡_ {A = ℕ} 0 1 = cc in absurd (omega arith)
 
   -- and that they fit
-  pub asked-fits : ((k : ℕ) → getD (x .buffers) k 0 < 256) → Fits kind (geometryOf x g)
+  pub asked-fits : ((k : ℕ) → getD (x .buffers) k 0 < 256) → RangesFit kind (geometryOf x g)
   asked-fits bytes = go (checkedAt x i j g) refl e
     where
       limit : buffer-size < 2 ^ 64
       limit = le-below 8 (x .buffers) _ bytes
 
-      go : (c : Checked) → checkedAt x i j g ≡ c → checkedE i j c ≡ passed → Fits kind (geometryOf x g)
+      go : (c : Checked) → checkedAt x i j g ≡ c → checkedE i j c ≡ passed → RangesFit kind (geometryOf x g)
       go (asks l) f h =
           let a = geometry-asked l f in
           record {

@@ -6,38 +6,12 @@ use mathlib.Core.List.{List, [], _∷_}
 use lib.Dec.{eqb}
 use lib.ListN.{length}
 use Rattle.ray_tracing.specs.Layout.{size}
-use Rattle.ray_tracing.specs.Records.{fieldAt, entryAt, packageAt}
+use Rattle.ray_tracing.specs.Records.{fieldAt}
 use Rattle.ray_tracing.proofs.Inside.{slotsBefore}
 use Rattle.instance.specs.Writable.{Writable}
 use Rattle.ray_tracing.specs.Instances.{presentOf}
-use Rattle.build_ranges.specs.Entries.{entriesIn}
+use Rattle.ray_tracing.specs.Parts.{ofPackages, packagesIn}
 use Rattle.ray_tracing.specs.Plan.{Tables, entryOf, packageOf, blasOfEntry, slotCount, slotPresent, slotBlas, dependenciesFrom}
-
--- Tlases, packages and slots
-abbrev pub ofPackages : List ℕ → List ℕ → List ℕ → Tables
-ofPackages tlases packages slots =
-    record {
-      alignment = 0;
-      buffers = [];
-      blases = [];
-      declared = [];
-      tlases = tlases;
-      entries = [];
-      geometries = [];
-      packages = packages;
-      slots = slots;
-    }
-
-abbrev pub packagesIn : List ℕ → ℕ
-packagesIn packages = length packages / size 7
-
--- the Blas of each entry, and the Tlas of each package, is in its table
-abbrev pub EntryBlases : List ℕ → List ℕ → Type 0
-EntryBlases blases entries = (i : ℕ) → i < entriesIn entries → entryAt entries (i * size 5) .blas .0 < length blases / size 2
-
-abbrev pub PackageTlases : List ℕ → List ℕ → Type 0
-PackageTlases tlases packages =
-    (p : ℕ) → p < packagesIn packages → packageAt packages (p * size 7) .tlas .0 < length tlases / size 4
 
 abbrev pub slotsIn : List ℕ → ℕ
 slotsIn slots = length slots / size 8

@@ -4,8 +4,8 @@ use mathlib.Core.List.{List, [], _++_}
 use lib.ListN.{length}
 use Rattle.ray_tracing.specs.Instances.{slotsBytes}
 use Rattle.ray_tracing.specs.Plan.{Outputs, blasScratch, tlasScratch, offsetsFrom, stagingFrom, compactableFrom, entryBlases, packageLists}
-use Rattle.build_ranges.specs.Entries.{ofEntries, entriesIn}
-use Rattle.build_plan.specs.Parts.{ofPackages, packagesIn, slotsIn, EntryBlases, PackageTlases, Drawn, AllWritable}
+use Rattle.ray_tracing.specs.Parts.{entriesIn, ofEntries, packagesIn, ofPackages, PackagesNamed, EntriesNamed}
+use Rattle.build_plan.specs.Parts.{slotsIn, Drawn, AllWritable}
 use Rattle.build_ranges.specs.Ranges.{allRanges, DrawnFit}
 
 abbrev pub planned : ℕ → List ℕ → List ℕ → List ℕ → List ℕ → List ℕ → List ℕ → Outputs
@@ -25,14 +25,14 @@ planned alignment blases tlases entries geometries packages slots =
 -- what judging showed of them
 pub record Plannable (alignment : ℕ) (blases tlases entries geometries packages slots : List ℕ) : Type 0 where
   pub aligned : 1 ≤ alignment
-  pub entry-blases : EntryBlases blases entries
-  pub package-tlases : PackageTlases tlases packages
+  pub entry-blases : EntriesNamed blases entries
+  pub package-tlases : PackagesNamed tlases packages
   pub slots-drawn : Drawn packages slots
   pub writable : AllWritable blases slots
   pub geometries-drawn : DrawnFit entries geometries
 
 -- no output is too short
-pub record Room (p o : Outputs) : Type 0 where
+pub record PlanRoom (p o : Outputs) : Type 0 where
   pub blas-offsets : length (p .«blas_offsets») ≤ length (o .«blas_offsets»)
   pub tlas-offsets : length (p .«tlas_offsets») ≤ length (o .«tlas_offsets»)
   pub staging-ranges : length (p .«staging_ranges») ≤ length (o .«staging_ranges»)
@@ -40,16 +40,3 @@ pub record Room (p o : Outputs) : Type 0 where
   pub init-ranges : length (p .«init_ranges») ≤ length (o .«init_ranges»)
   pub compactable : length (p .compactable) ≤ length (o .compactable)
   pub lists : length (p .lists) ≤ length (o .lists)
-
--- the outputs as they are lent
-abbrev pub outputsOf : List ℕ → List ℕ → List ℕ → List ℕ → List ℕ → List ℕ → List ℕ → Outputs
-outputsOf blas-offsets tlas-offsets staging-ranges instances init-ranges compactable lists =
-    record {
-      «blas_offsets» = blas-offsets;
-      «tlas_offsets» = tlas-offsets;
-      «staging_ranges» = staging-ranges;
-      instances = instances;
-      «init_ranges» = init-ranges;
-      compactable = compactable;
-      lists = lists;
-    }

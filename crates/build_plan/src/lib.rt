@@ -20,11 +20,11 @@ ghost use Prim.Native.Nat.{ℕ, _+_, _*_, _/_, _≤_, _<_};
 ghost use lib.ListN.{length};
 ghost use lib.Seq.{sets};
 ghost use Rattle.ray_tracing.specs.Instances.{presentOf, slotsBytes};
-ghost use Rattle.ray_tracing.specs.Plan.{blasScratch, tlasScratch, offsetsFrom, compactableFrom, entryBlases, dependenciesFrom, slotCount, packageLists, stagingFrom, countsOf, written};
+ghost use Rattle.ray_tracing.specs.Plan.{blasScratch, tlasScratch, offsetsFrom, compactableFrom, entryBlases, dependenciesFrom, slotCount, packageLists, stagingFrom, countsOf, written, outputsOf};
 ghost use Rattle.build_ranges.specs.Ranges.{DrawnFit};
-ghost use Rattle.build_plan.specs.Planned.{planned, Plannable, Room, outputsOf};
-ghost use Rattle.build_ranges.specs.Entries.{ofEntries, entriesIn};
-ghost use Rattle.build_plan.specs.Parts.{ofPackages, packagesIn, EntryBlases, PackageTlases, slotsIn, Drawn, AllWritable, compactableOf, dependencyOf, packageList};
+ghost use Rattle.build_plan.specs.Planned.{planned, Plannable, PlanRoom};
+ghost use Rattle.ray_tracing.specs.Parts.{entriesIn, ofEntries, packagesIn, ofPackages, PackagesNamed, EntriesNamed};
+ghost use Rattle.build_plan.specs.Parts.{slotsIn, Drawn, AllWritable, compactableOf, dependencyOf, packageList};
 
 fn slot_count_of(packages: &[u8], p: usize) -> usize
     requires { ⌜ p < packagesIn (now packages) ⌝ }
@@ -35,7 +35,7 @@ fn slot_count_of(packages: &[u8], p: usize) -> usize
 
 // One offset per entry: the total before it.
 fn write_blas_offsets(alignment: u32, blases: &[u8], entries: &[u8], out: &mut [u64])
-    requires { ⌜ (1 ≤ alignment) × (entriesIn (now entries) ≤ length (now out)) × EntryBlases (now blases) (now entries) ⌝ }
+    requires { ⌜ (1 ≤ alignment) × (entriesIn (now entries) ≤ length (now out)) × EntriesNamed (now blases) (now entries) ⌝ }
     ensures { λ _. ⌜ now (out .exit) ≡ sets (now (out .entry)) 0 (offsetsFrom (blasScratch (ofEntries (now (blases .entry)) (now (entries .entry)))) alignment 0 0 (entriesIn (now (entries .entry)))) ⌝ }
 {
     let mut blas_total: u64 = 0;
@@ -50,7 +50,7 @@ fn write_blas_offsets(alignment: u32, blases: &[u8], entries: &[u8], out: &mut [
 
 // One offset per package, from 0 again: Blases and Tlases share the scratch.
 fn write_tlas_offsets(alignment: u32, tlases: &[u8], packages: &[u8], out: &mut [u64])
-    requires { ⌜ (1 ≤ alignment) × (packagesIn (now packages) ≤ length (now out)) × PackageTlases (now tlases) (now packages) ⌝ }
+    requires { ⌜ (1 ≤ alignment) × (packagesIn (now packages) ≤ length (now out)) × PackagesNamed (now tlases) (now packages) ⌝ }
     ensures { λ _. ⌜ now (out .exit) ≡ sets (now (out .entry)) 0 (offsetsFrom (tlasScratch (ofPackages (now (tlases .entry)) (now (packages .entry)) [])) alignment 0 0 (packagesIn (now (packages .entry)))) ⌝ }
 {
     let mut tlas_total: u64 = 0;
@@ -65,7 +65,7 @@ fn write_tlas_offsets(alignment: u32, tlases: &[u8], packages: &[u8], out: &mut 
 
 // An entry's Blas, if it is compactable, from index at on; the index past it.
 fn put_compactable(blases: &[u8], entries: &[u8], i: usize, out: &mut [u16], at: usize) -> usize
-    requires { ⌜ (i < entriesIn (now entries)) × EntryBlases (now blases) (now entries) ⌝ }
+    requires { ⌜ (i < entriesIn (now entries)) × EntriesNamed (now blases) (now entries) ⌝ }
     requires { ⌜ at + length (compactableOf (ofEntries (now blases) (now entries)) i) ≤ length (now out) ⌝ }
     ensures { λ r. ⌜ r ≡ at + length (compactableOf (ofEntries (now (blases .entry)) (now (entries .entry))) i) ⌝ }
     ensures { λ _. ⌜ now (out .exit) ≡ sets (now (out .entry)) at (compactableOf (ofEntries (now (blases .entry)) (now (entries .entry))) i) ⌝ }
@@ -79,7 +79,7 @@ fn put_compactable(blases: &[u8], entries: &[u8], i: usize, out: &mut [u16], at:
 }
 
 fn write_compactable(blases: &[u8], entries: &[u8], out: &mut [u16])
-    requires { ⌜ EntryBlases (now blases) (now entries) ⌝ }
+    requires { ⌜ EntriesNamed (now blases) (now entries) ⌝ }
     requires { ⌜ length (compactableFrom (ofEntries (now blases) (now entries)) 0 (entriesIn (now entries))) ≤ length (now out) ⌝ }
     ensures { λ _. ⌜ now (out .exit) ≡ sets (now (out .entry)) 0 (compactableFrom (ofEntries (now (blases .entry)) (now (entries .entry))) 0 (entriesIn (now (entries .entry)))) ⌝ }
 {
@@ -201,7 +201,7 @@ fn write_instances(blases: &[u8], slots: &[u8], out: &mut [u8])
 }
 
 fn compactable_cells(blases: &[u8], entries: &[u8], i: usize) -> usize
-    requires { ⌜ (i < entriesIn (now entries)) × EntryBlases (now blases) (now entries) ⌝ }
+    requires { ⌜ (i < entriesIn (now entries)) × EntriesNamed (now blases) (now entries) ⌝ }
     ensures { λ r. ⌜ (r ≡ length (compactableOf (ofEntries (now (blases .entry)) (now (entries .entry))) i)) × (r ≤ 1) ⌝ }
 {
     let blas = blas_of_entry(blases, entries, i);
@@ -209,7 +209,7 @@ fn compactable_cells(blases: &[u8], entries: &[u8], i: usize) -> usize
 }
 
 fn count_compactable(blases: &[u8], entries: &[u8]) -> usize
-    requires { ⌜ EntryBlases (now blases) (now entries) ⌝ }
+    requires { ⌜ EntriesNamed (now blases) (now entries) ⌝ }
     ensures { λ r. ⌜ r ≡ length (compactableFrom (ofEntries (now (blases .entry)) (now (entries .entry))) 0 (entriesIn (now (entries .entry)))) ⌝ }
 {
     let mut n: usize = 0;
@@ -229,7 +229,7 @@ pub fn counts(
     packages: &[u8],
     slots: &[u8],
 ) -> Written
-    requires { ⌜ EntryBlases (now blases) (now entries) × DrawnFit (now entries) (now geometries) × Drawn (now packages) (now slots) ⌝ }
+    requires { ⌜ EntriesNamed (now blases) (now entries) × DrawnFit (now entries) (now geometries) × Drawn (now packages) (now slots) ⌝ }
     ensures { λ r. ⌜ r ≡ countsOf (planned 0 (now (blases .entry)) [] (now (entries .entry)) (now (geometries .entry)) (now (packages .entry)) (now (slots .entry))) ⌝ }
 {
     let blas_offsets = entries.len() / 5;
@@ -266,7 +266,7 @@ pub fn write_plan(
     lists: &mut [u16],
 )
     requires { ⌜ Plannable alignment (now blases) (now tlases) (now entries) (now geometries) (now packages) (now slots) ⌝ }
-    requires { ⌜ Room (planned alignment (now blases) (now tlases) (now entries) (now geometries) (now packages) (now slots)) (outputsOf (now «blas_offsets») (now «tlas_offsets») (now «staging_ranges») (now instances) (now «init_ranges») (now compactable) (now lists)) ⌝ }
+    requires { ⌜ PlanRoom (planned alignment (now blases) (now tlases) (now entries) (now geometries) (now packages) (now slots)) (outputsOf (now «blas_offsets») (now «tlas_offsets») (now «staging_ranges») (now instances) (now «init_ranges») (now compactable) (now lists)) ⌝ }
     ensures { λ _. ⌜ outputsOf (now («blas_offsets» .exit)) (now («tlas_offsets» .exit)) (now («staging_ranges» .exit)) (now (instances .exit)) (now («init_ranges» .exit)) (now (compactable .exit)) (now (lists .exit))
         ≡ written (planned alignment (now (blases .entry)) (now (tlases .entry)) (now (entries .entry)) (now (geometries .entry)) (now (packages .entry)) (now (slots .entry)))
         (outputsOf (now («blas_offsets» .entry)) (now («tlas_offsets» .entry)) (now («staging_ranges» .entry)) (now (instances .entry)) (now («init_ranges» .entry)) (now (compactable .entry)) (now (lists .entry))) ⌝ }

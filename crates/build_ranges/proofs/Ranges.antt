@@ -18,13 +18,13 @@ use Rattle.ray_tracing.specs.Checks.{range}
 use Rattle.ray_tracing.specs.Triangles.{indexWidth}
 use Rattle.ray_tracing.proofs.Plan.{left-more, left-none}
 use Rattle.ray_tracing.proofs.Inside.{drawnBefore, drawn-more}
-use Rattle.build_ranges.specs.Entries.{ofEntries, entriesIn}
-use Rattle.build_ranges.specs.Ranges.{dataRange, indexRange, transformRange, geometryRanges, entryRanges, allRanges, Fits, AllFit, geometriesIn, DrawnFit}
+use Rattle.ray_tracing.specs.Parts.{entriesIn, ofEntries}
+use Rattle.build_ranges.specs.Ranges.{dataRange, indexRange, transformRange, geometryRanges, entryRanges, allRanges, RangesFit, AllFit, geometriesIn, DrawnFit}
 use Rattle.build_ranges.proofs.Appending.{Next}
 
 -- ---- one geometry
 
-module _ {kind : ℕ} {g : BlasGeometry} (f : Fits kind g) where
+module _ {kind : ℕ} {g : BlasGeometry} (f : RangesFit kind g) where
   pub vertices-fit : kind ≡ 0 → g .first * g .stride + g .count * g .stride < 2 ^ 64
   vertices-fit e = rw (← add-mul) (f .vertices e)
 

@@ -12,7 +12,7 @@ use Rattle.ray_tracing.specs.Checks.{range}
 use Rattle.ray_tracing.specs.Triangles.{indexWidth}
 use Rattle.ray_tracing.specs.Plan.{geometryCount}
 use Rattle.ray_tracing.proofs.Inside.{drawnBefore}
-use Rattle.build_ranges.specs.Entries.{ofEntries, entriesIn}
+use Rattle.ray_tracing.specs.Parts.{entriesIn, ofEntries}
 
 -- triangles' vertices, or boxes
 abbrev pub dataRange : ℕ → BlasGeometry → List ℕ
@@ -50,14 +50,14 @@ allRanges entries geometries i g (suc n) =
     ++ allRanges entries geometries (i + 1) (g + entryAt entries (i * size 5) .«geometry_count») n
 
 -- the ends of a geometry's ranges are u64s
-pub record Fits (kind : ℕ) (g : BlasGeometry) : Type 0 where
+pub record RangesFit (kind : ℕ) (g : BlasGeometry) : Type 0 where
   pub vertices : kind ≡ 0 → (g .first + g .count) * g .stride < 2 ^ 64
   pub boxes : (kind ≡ 0 → ⊥) → g .first + g .count * g .stride < 2 ^ 64
   pub transform : kind ≡ 0 → (g .«transform_buffer» .0 ≡ 65535 → ⊥) → g .«transform_buffer_offset» + 48 < 2 ^ 64
 
 abbrev pub AllFit : List ℕ → ℕ → ℕ → ℕ → Type 0
 AllFit geometries kind first count =
-    (g : ℕ) → first ≤ g → g < first + count → Fits kind (geometryAt geometries (g * size 6))
+    (g : ℕ) → first ≤ g → g < first + count → RangesFit kind (geometryAt geometries (g * size 6))
 
 -- the geometries that each entry draws are there, there are not too many, and their ranges fit
 abbrev pub geometriesIn : List ℕ → ℕ

@@ -11,14 +11,14 @@ ghost use lib.Dec.{eqb};
 ghost use Prim.Native.Nat.{_+_, _*_, _/_, _≤_, _<_};
 ghost use lib.ListN.{length};
 ghost use lib.Seq.{sets};
-ghost use Rattle.ray_tracing.specs.Checks.{rangeOf, askedOf};
+ghost use Rattle.ray_tracing.specs.Code.{askedOf, rangeOf};
 ghost use Rattle.ray_tracing.specs.Triangles.{indexWidth};
-ghost use Rattle.build_ranges.specs.Entries.{entriesIn};
-ghost use Rattle.build_ranges.specs.Ranges.{dataRange, indexRange, transformRange, geometryRanges, entryRanges, allRanges, Fits, AllFit, geometriesIn, DrawnFit};
+ghost use Rattle.ray_tracing.specs.Parts.{entriesIn};
+ghost use Rattle.build_ranges.specs.Ranges.{dataRange, indexRange, transformRange, geometryRanges, entryRanges, allRanges, RangesFit, AllFit, geometriesIn, DrawnFit};
 
 // Vertices, or boxes.
 fn data_range(kind: u8, g: BlasGeometry) -> Range
-    requires { ⌜ Fits kind g ⌝ }
+    requires { ⌜ RangesFit kind g ⌝ }
     ensures { λ r. ⌜ rangeOf r ≡ dataRange kind g ⌝ }
 {
     let buffer = g.buffer;
@@ -57,7 +57,7 @@ fn index_range(kind: u8, g: BlasGeometry) -> Asked
 }
 
 fn transform_range(kind: u8, g: BlasGeometry) -> Asked
-    requires { ⌜ Fits kind g ⌝ }
+    requires { ⌜ RangesFit kind g ⌝ }
     ensures { λ r. ⌜ askedOf r ≡ transformRange kind g ⌝ }
 {
     if kind != 0 {
@@ -98,7 +98,7 @@ fn put_asked(out: &mut [u64], at: usize, asked: Asked) -> usize
 
 // The ranges that a geometry asks for, from index at on; the index past them.
 fn put_geometry(kind: u8, g: BlasGeometry, out: &mut [u64], at: usize) -> usize
-    requires { ⌜ Fits kind g × (at + length (geometryRanges kind g) ≤ length (now out)) ⌝ }
+    requires { ⌜ RangesFit kind g × (at + length (geometryRanges kind g) ≤ length (now out)) ⌝ }
     ensures { λ r. ⌜ r ≡ at + length (geometryRanges kind g) ⌝ }
     ensures { λ _. ⌜ now (out .exit) ≡ sets (now (out .entry)) at (geometryRanges kind g) ⌝ }
 {

@@ -10,9 +10,9 @@ ghost use Prim.Native.Nat.{_-_, _≤_, _<_};
 ghost use lib.Dec.{eqb};
 ghost use Rattle.ray_tracing.specs.Layout.{layout, size};
 ghost use Rattle.ray_tracing.specs.Reading.{judgeLent};
-ghost use Rattle.ray_tracing.specs.Causes.{bare, buildCause, sheetNumber, judgedOf};
-ghost use Rattle.ray_tracing.specs.Plan.{verdictOf, refused, on, bySection, judgeTables};
-ghost use Rattle.ray_tracing.proofs.Inside.{tablesOf};
+ghost use Rattle.ray_tracing.specs.Causes.{bare, buildCause, sheetNumber};
+ghost use Rattle.ray_tracing.specs.Code.{judgedOf, verdictOf};
+ghost use Rattle.ray_tracing.specs.Plan.{refused, on, bySection, judgeTables, tablesOf};
 ghost use Rattle.ray_tracing.proofs.Lent.{Only};
 
 // A lent table is refused with 4 or 5 only. `submit_start::table_error` answers another type, a submission's.

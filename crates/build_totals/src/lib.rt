@@ -5,9 +5,8 @@ use scratch::add_rounded;
 ghost use mathlib.Core.Path.{_≡_};
 ghost use mathlib.Core.List.{[]};
 ghost use Prim.Native.Nat.{_≤_, max};
-ghost use Rattle.ray_tracing.specs.Plan.{blasTotal, tlasTotal, scratchSize};
-ghost use Rattle.ray_tracing.proofs.Inside.{tablesOf};
-ghost use Rattle.build_ids.specs.Named.{EntriesNamed, PackagesNamed};
+ghost use Rattle.ray_tracing.specs.Plan.{blasTotal, tlasTotal, scratchSize, tablesOf};
+ghost use Rattle.ray_tracing.specs.Parts.{PackagesNamed, EntriesNamed};
 
 // Blas scratch runs from 0.
 fn blas_total(alignment: u32, blases: &[u8], entries: &[u8]) -> u64

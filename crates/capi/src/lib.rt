@@ -20,13 +20,10 @@ ghost use lib.ListN.{length};
 ghost use Rattle.ray_tracing.specs.Reading.{readSheet};
 ghost use Rattle.ray_tracing.specs.Plan as Plan;
 ghost use Rattle.ray_tracing.specs.Instances.{instanceFrom, appendRule, appendBytes};
-ghost use Rattle.ray_tracing.specs.Submission.{submission, decode};
+ghost use Rattle.ray_tracing.specs.Submission.{submission, decode, lentOf, pieceOf};
 ghost use Rattle.ray_tracing.specs.Report.{reportRule, reportBytes};
-ghost use Rattle.ray_tracing.proofs.Inside.{tablesOf};
-ghost use Rattle.submit_checks.specs.Outcome.{lentOf};
-ghost use Rattle.submit.specs.Numbers.{pieceOf, told};
-ghost use Rattle.build_plan.specs.Planned.{outputsOf};
-ghost use Rattle.build.specs.Room.{outputsAfter};
+ghost use Rattle.ray_tracing.specs.Plan.{tablesOf, outputsOf, outputsAfter};
+ghost use Rattle.submit.specs.Numbers.{shown};
 ghost use Rattle.capi_answers.specs.Answers.{sheetAnswer, builtAnswer, appendAnswer, reportAnswer};
 ghost use Rattle.capi.specs.Told.{submitTold};
 
@@ -102,7 +99,7 @@ pub extern "C" fn zakvind_submit(
     lists: &[u16],
 ) -> SubmitAnswer
     ensures { λ r. ⌜ (submitTold r (now (indices .exit) .«next_acceleration_structure_build_command_index») (now (blases .exit)) (now (tlases .exit)) (now («dependency_counts» .exit)) (now (dependencies .exit))
-        ≡ told (submission (lentOf (now (indices .entry) .«next_acceleration_structure_build_command_index») (now (blases .entry)) (now (tlases .entry)) (now («dependency_counts» .entry)) (now (dependencies .entry))) (decode (pieceOf (now (actions .entry)) (now (lists .entry))))))
+        ≡ shown (submission (lentOf (now (indices .entry) .«next_acceleration_structure_build_command_index») (now (blases .entry)) (now (tlases .entry)) (now («dependency_counts» .entry)) (now (dependencies .entry))) (decode (pieceOf (now (actions .entry)) (now (lists .entry))))))
         × (now (indices .exit) .«active_submission_index» ≡ now (indices .entry) .«active_submission_index») ⌝ }
 {
     let counter = indices.next_acceleration_structure_build_command_index;

@@ -1,6 +1,6 @@
 -- The exported answers as records of numbers: what the definitions' answers come to, unused fields 0. Assumes nothing.
 use Rattle.ray_tracing.specs.Reading.{Reading, accepted, rejected}
-use Rattle.ray_tracing.specs.Plan.{Answer, recorded, nothing-recorded, not-built}
+use Rattle.ray_tracing.specs.Plan.{Building, recorded, nothing-recorded, not-built}
 use Rattle.ray_tracing.specs.Instances.{Appending, inUse, refused}
 use Rattle.ray_tracing.specs.Report.{Reporting}
 use Rattle.capi_answers.specs.declared.SheetAnswer.{SheetAnswer}
@@ -64,7 +64,7 @@ sheetAnswer (rejected n p) =
     }
 
 -- how many elements of each output a build wrote, or E and the cause with its figures
-abbrev pub builtAnswer : Answer → BuildAnswer
+abbrev pub builtAnswer : Building → BuildAnswer
 builtAnswer (recorded size w) =
     record {
       number = 0;

@@ -11,7 +11,7 @@ use ray_tracing::Written;
 ghost use mathlib.Core.Path.{_≡_};
 ghost use Rattle.ray_tracing.specs.Causes.{readingOf};
 ghost use Rattle.ray_tracing.specs.Reading.{accepted, rejected};
-ghost use Rattle.ray_tracing.specs.Plan.{recorded, nothing-recorded, not-built, answerOf};
+ghost use Rattle.ray_tracing.specs.Plan.{recorded, nothing-recorded, not-built, buildingOf};
 ghost use Rattle.ray_tracing.specs.Instances.{appendedOf};
 ghost use Rattle.ray_tracing.specs.Report.{reportedOf};
 ghost use Rattle.causes.specs.Figures.{causeOf};
@@ -222,7 +222,7 @@ fn build_refused(figures: Figures, e: u64, f: u64) -> BuildAnswer
 }
 
 pub fn build_answer(built: Built) -> BuildAnswer
-    ensures { λ r. ⌜ r ≡ builtAnswer (answerOf built) ⌝ }
+    ensures { λ r. ⌜ r ≡ builtAnswer (buildingOf built) ⌝ }
 {
     match built {
         Built::Recorded(size, w) => build_recorded(size, w),

@@ -11,7 +11,7 @@ use Rattle.ray_tracing.specs.Causes.{cause, bare}
 use Rattle.ray_tracing.specs.Submission.{Lent, Piece, useTlas, Outcome, accepted, refused, _leaving_, blasCount, tlasCount, blas, tlas, blasIn, tlasIn, listIn, packagesAt, packagesLent, action, decodeCells, decode, submission}
 use Rattle.ray_tracing.specs.History.{among, Built, latest, since, log, allowed, acts, tellAction, tellActions, history}
 use Rattle.ray_tracing.specs.Claim.{Sent, send, sendRefused, Calls, noCall, call, reached, Each, Usable, NumbersBelow, ByHistory, Demand-3}
-use Rattle.ray_tracing.specs.DemandExamples.{lent, piece, lists-7, first-7, second-7, start-7, example-7, example-7-then, cut-7, ends-in-42, cut-42, middle-piece, cut-malformed, start-numbered, numbered}
+use Rattle.ray_tracing.proofs.DemandExamples.{lent, piece, lists-7, first-7, second-7, start-7, example-7, example-7-then, cut-7, ends-in-42, cut-42, middle-piece, cut-malformed, start-numbered, numbered}
 use Rattle.ray_tracing.proofs.Demand3.{demand-3}
 
 abbrev start : Lent

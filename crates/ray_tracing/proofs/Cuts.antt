@@ -7,13 +7,13 @@ use mathlib.Core.Option.{none}
 use mathlib.Core.List.{List, [], _∷_, _++_, map, flatten}
 use lib.ListN.{length}
 use Rattle.ray_tracing.specs.Causes.{Cause}
-use Rattle.ray_tracing.specs.Submission.{Lent, Piece, Action, Answer, Outcome, accepted, refused, _leaving_, left, _then_, later, judge, step, run, submission, decode}
+use Rattle.ray_tracing.specs.Submission.{Lent, Piece, Action, Answer, Outcome, accepted, refused, _leaving_, left, _followedBy_, later, judge, step, run, submission, decode}
 use Rattle.ray_tracing.specs.Claim.{Call, Sent, allSent, sendRefused, send, Cut, Fits}
 use Rattle.ray_tracing.proofs.Firsts.{later-later, later-zero, later-then, then-then, then-ap}
 use Rattle.ray_tracing.proofs.Sound.{Sound, sound, judged, sound-submission}
 
 -- a list in two parts: the second is run on what the first left
-pub run-append : (l : Lent) (xs ys : List Action) → run l (xs ++ ys) ≡ (run l xs then λ r. later (length xs) (run r ys))
+pub run-append : (l : Lent) (xs ys : List Action) → run l (xs ++ ys) ≡ (run l xs followedBy λ r. later (length xs) (run r ys))
 unfolding run
 run-append l [] ys = sym (later-zero (run l ys))
 run-append l (x ∷ xs) ys =
@@ -43,11 +43,11 @@ sent-run : {l : Lent} {pieces : List Piece} {o : Outcome} → Sent l pieces o �
 unfolding flatten run
 sent-run allSent h = refl
 sent-run {l = l} (sendRefused {l′ = l′} {p = p} {ps = ps} {i = i} {c = c} e) h =
-    ap (λ (o : Outcome). o then λ r. later (length (decode p)) (run r (flatten (map decode ps)))) (e ∙ submission-run l (decode p) h)
+    ap (λ (o : Outcome). o followedBy λ r. later (length (decode p)) (run r (flatten (map decode ps)))) (e ∙ submission-run l (decode p) h)
     ∙ sym (run-append l (decode p) (flatten (map decode ps)))
 sent-run {l = l} (send {l′ = l′} {p = p} {ps = ps} {o = o} e s) h =
     ap (later (length (decode p))) (sent-run s (sound-call l p accepted l′ e h))
-    ∙ ap (λ (o : Outcome). o then λ r. later (length (decode p)) (run r (flatten (map decode ps)))) (e ∙ submission-run l (decode p) h)
+    ∙ ap (λ (o : Outcome). o followedBy λ r. later (length (decode p)) (run r (flatten (map decode ps)))) (e ∙ submission-run l (decode p) h)
     ∙ sym (run-append l (decode p) (flatten (map decode ps)))
 
 pub cuts : (l : Lent) → Sound l → (whole : Piece) (pieces : List Piece) → Cut whole pieces → (o : Outcome) → Sent l pieces o → o ≡ submission l (decode whole)

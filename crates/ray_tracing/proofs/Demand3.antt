@@ -10,8 +10,7 @@ use lib.Seq.{split-at, length-take-le}
 use lib.Dec.{leb}
 use borrow.Author.Tests.{leb-true, leb-false, le-leb, lt-leb, lt-ltb}
 use Rattle.ray_tracing.specs.Causes.{Cause}
-use Rattle.ray_tracing.specs.Submission.{Lent, Piece, Package, Action, build, useTlas, malformed, Answer, Outcome, accepted, refused, _leaving_, left, _then_, later, unless, first}
-use Rattle.ray_tracing.specs.Submission.{tlasCount, tlas, judge, before, buildBlases, buildTlas, unnumbered, buildTlases, unusable, act, step, run, submission, decode}
+use Rattle.ray_tracing.specs.Submission.{Lent, Piece, Package, Action, build, useTlas, malformed, Answer, Outcome, accepted, refused, _leaving_, left, _followedBy_, later, unlessCause, first, tlasCount, tlas, judge, before, buildBlases, buildTlas, unnumbered, buildTlases, unusable, act, step, run, submission, decode}
 use Rattle.ray_tracing.specs.History.{among, Built, blasNumber, Latest, listed, builtWith, latest, since, usable, allowed, Told, passed, stopped, log, going, told, acts, tellAction, tellActions, history}
 use Rattle.ray_tracing.specs.Claim.{Call, Calls, noCall, call, reached, Each, UsableBlas, Usable, NumbersBelow, Use, Fits, Demand-3}
 use Rattle.ray_tracing.proofs.Sound.{Sound, sound}
@@ -37,7 +36,7 @@ abbrev Within : ℕ → Outcome → Type 0
 Within n (accepted leaving l) = Unit {0}
 Within n (refused i c leaving l) = i < n
 
-within-unless : (n : ℕ) (c : Option Cause) (l : Lent) (o : Outcome) → 0 < n → Within n o → Within n (unless c l o)
+within-unless : (n : ℕ) (c : Option Cause) (l : Lent) (o : Outcome) → 0 < n → Within n o → Within n (unlessCause c l o)
 within-unless n none l o p h = h
 within-unless n (some c) l o p h = p
 
@@ -65,7 +64,7 @@ within-run l (a ∷ more) = go (step l a) (within-step l a) (λ r. within-run r 
     count (accepted leaving r) h = tt
     count (refused i c leaving r) h = omega arith
 
-    go : (o : Outcome) → Within 1 o → ((r : Lent) → Within (length more) (run r more)) → Within (suc (length more)) (o then λ r. later 1 (run r more))
+    go : (o : Outcome) → Within 1 o → ((r : Lent) → Within (length more) (run r more)) → Within (suc (length more)) (o followedBy λ r. later 1 (run r more))
     go (accepted leaving r) h k = count (run r more) (k r)
     go (refused i c leaving r) h k = omega arith
 
@@ -92,7 +91,7 @@ reached-pred n (refused i c leaving l) e = let k = leb-true (suc n) i e in le-le
 
 -- what comes after n actions is reached if the history goes on there
 reached-then : (l : Lent) (n : ℕ) (x : Told) (o : Outcome) (f : Lent → Outcome) → Same l x o → Within n o
-    → reached n (o then λ r. later n (f r)) ≡ going x
+    → reached n (o followedBy λ r. later n (f r)) ≡ going x
 unfolding reached
 reached-then l n (passed h) (accepted leaving r) f a w = reached-later n (f r)
 reached-then l n (stopped h) (refused i c leaving r) f a w = lt-leb n i w
@@ -111,8 +110,8 @@ going-use l h t k =
     go false = refl
 
 rule : (l : Lent) (n : ℕ) (x : Told) (o : Outcome) (t : ℕ) (more : List Action) → t < tlasCount l → Same l x o → Within n o
-    → reached n (o then λ r. later n (run r (useTlas t ∷ more))) ≡ true
-    → reached (suc n) (o then λ r. later n (run r (useTlas t ∷ more))) ≡ usable l (log x) t
+    → reached n (o followedBy λ r. later n (run r (useTlas t ∷ more))) ≡ true
+    → reached (suc n) (o followedBy λ r. later n (run r (useTlas t ∷ more))) ≡ usable l (log x) t
 unfolding run reached
 rule l n (passed h) (accepted leaving r) t more k a w e =
     reached-suc n (run r (useTlas t ∷ more))
@@ -161,7 +160,7 @@ fresh l h t c b k u =
 -- ---- a use in a submission
 
 use-then : (l : Lent) (h : List Built) (r : Lent) → Agree l h r → (acts : List Action) (t : ℕ) (more : List Action) → t < tlasCount l
-    → Use l (tellActions l h acts) t (length acts) (run r acts then λ q. later (length acts) (run q (useTlas t ∷ more)))
+    → Use l (tellActions l h acts) t (length acts) (run r acts followedBy λ q. later (length acts) (run q (useTlas t ∷ more)))
 use-then l h r a acts t more k =
     let same = run-same l h r a acts in
     let w = within-run r acts in
@@ -189,7 +188,7 @@ use-at l h r a xs i t e k =
     let parts : xs ≡ take i xs ++ useTlas t ∷ drop (suc i) xs = split-at xs i malformed w ∙ ap (λ (x : Action). take i xs ++ x ∷ drop (suc i) xs) e in
     subst (λ (o : Outcome). Use l (tellActions l h (take i xs)) t i o)
     (sym (submission-run r xs (a .sound) ∙ ap (run r) parts ∙ run-append r (take i xs) (useTlas t ∷ drop (suc i) xs)))
-    (subst (λ (j : ℕ). Use l (tellActions l h (take i xs)) t j (run r (take i xs) then λ q. later (length (take i xs)) (run q (useTlas t ∷ drop (suc i) xs)))) n
+    (subst (λ (j : ℕ). Use l (tellActions l h (take i xs)) t j (run r (take i xs) followedBy λ q. later (length (take i xs)) (run q (useTlas t ∷ drop (suc i) xs)))) n
     (use-then l h r a (take i xs) t (drop (suc i) xs) k))
 
 -- ---- the whole

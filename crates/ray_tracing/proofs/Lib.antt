@@ -30,3 +30,5 @@ pub mod Staged
 pub mod RecordedAction
 pub mod PlanLaws
 pub mod Lent
+pub mod DemandExamples
+pub mod Examples

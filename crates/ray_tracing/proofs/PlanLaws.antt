@@ -13,7 +13,7 @@ use borrow.Author.Tests.{eqb-false, ltb-false}
 use Rattle.ray_tracing.specs.declared.Written.{Written}
 use Rattle.ray_tracing.specs.Layout.{size}
 use Rattle.ray_tracing.specs.Causes.{Cause, bare}
-use Rattle.ray_tracing.specs.Plan.{Tables, Verdict, passed, refused, on, _or_, firstOf, recordsIn, blasOfEntry, tlasOfPackage, judgeTables, judgeIds, judgeEntries, judgePackages, judgeFinal, tlasDestroyed, blasBuildable, blasScratch, tlasScratch, blasTotal, tlasTotal, scratchSize, entryBlases, Outputs, planOf, tooShort, short, countsOf, Answer, recorded, nothing-recorded, not-built, unless, build, leaves}
+use Rattle.ray_tracing.specs.Plan.{Tables, Verdict, passed, refused, on, _or_, firstOf, recordsIn, blasOfEntry, tlasOfPackage, judgeTables, judgeIds, judgeEntries, judgePackages, judgeFinal, tlasDestroyed, blasBuildable, blasScratch, tlasScratch, blasTotal, tlasTotal, scratchSize, entryBlases, Outputs, planOf, tooShort, short, countsOf, Building, recorded, nothing-recorded, not-built, unless, build, leaves}
 use Rattle.ray_tracing.specs.Submission as submission
 use Rattle.ray_tracing.specs.Submission.{Lent, Action, decodeCells}
 use Rattle.ray_tracing.proofs.Verdicts.{or-passed, on-passed, each-passed}
@@ -33,7 +33,7 @@ pub record Recorded (x : Tables) (o : Outputs) (n : ℕ) (w : Written) : Type 0 
   pub size : n ≡ scratchSize x
   pub counts : w ≡ countsOf (planOf x)
 
-unless-recorded : (v : Verdict) (b : Answer) (n : ℕ) (w : Written) → unless v b ≡ recorded n w → (v ≡ passed) × (b ≡ recorded n w)
+unless-recorded : (v : Verdict) (b : Building) (n : ℕ) (w : Written) → unless v b ≡ recorded n w → (v ≡ passed) × (b ≡ recorded n w)
 unless-recorded passed b n w e = (refl, e)
 unless-recorded (refused p q c) b n w e = let z : _≡_ {A = ℕ} 0 1 = cc in absurd (omega arith)
 
@@ -209,7 +209,7 @@ module _ (x : Tables) (o : Outputs) (n : ℕ) (w : Written) (r : build x o ≡ r
       let l = planOf x .lists in
       ap (λ (a : Action). a ∷ [])
       (action-decoded x (leaves (build x o) (planOf x) o .lists) (drop (0 + length l) (o .lists))
-      (ap (λ (a : Answer). leaves a (planOf x) o .lists) r ∙ sets-eq l (o .lists) 0 (rw zero-add lists-room)))
+      (ap (λ (a : Building). leaves a (planOf x) o .lists) r ∙ sets-eq l (o .lists) 0 (rw zero-add lists-room)))
 
   -- on the same tables that action is refused for nothing but a counter that is 0
   pub not-refused :
@@ -217,5 +217,5 @@ module _ (x : Tables) (o : Outputs) (n : ℕ) (w : Written) (r : build x o ≡ r
       → l .blases ≡ x .blases
       → l .tlases ≡ x .tlases
       → submission.before l (submission.build (entryBlases x 0 (recordsIn x 5)) (recordedPackages x 0 0 (recordsIn x 7)))
-      ≡ submission.on (eqb (l .counter) 0) (bare 40)
+      ≡ submission.causeWhen (eqb (l .counter) 0) (bare 40)
   not-refused l b t = only-counter x facts l b t (λ k h. blas-kept k h .1)

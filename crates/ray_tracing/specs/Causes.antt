@@ -25,11 +25,6 @@ sheetNumber sheet.TrailingBytes = 3
 sheetNumber sheet.TooMany = 4
 sheetNumber sheet.InvalidValue = 5
 
--- with its place
-abbrev pub judgedOf : Judged → reading.Judged
-judgedOf judged.Fine = reading.fine
-judgedOf (judged.Refused e p) = reading.refused (sheetNumber e) p
-
 abbrev pub readingOf : SheetRead → reading.Reading
 readingOf (sheet-read.Accepted s) = reading.accepted s
 readingOf (sheet-read.Refused e p) = reading.rejected (sheetNumber e) p

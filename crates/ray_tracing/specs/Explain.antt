@@ -8,13 +8,12 @@ use lib.Seq.{sets}
 use lib.Dec.{ltb, eqb}
 use Rattle.ray_tracing.specs.declared.Sheet.{Sheet}
 use Rattle.ray_tracing.specs.Layout.{size}
-use Rattle.ray_tracing.specs.Reading.{Reading, accepted, rejected, readSheet}
+use Rattle.ray_tracing.specs.Reading.{Reading, accepted, rejected, readSheet, table}
 use Rattle.ray_tracing.specs.Records.{fieldAt}
 use Rattle.ray_tracing.specs.Causes.{Cause}
-use Rattle.ray_tracing.specs.Writing.{table, tablesOf}
-use Rattle.ray_tracing.specs.Plan.{Tables, Answer, recorded, nothing-recorded, not-built, planOf, build}
+use Rattle.ray_tracing.specs.Plan.{sheetTables, Tables, Building, recorded, nothing-recorded, not-built, planOf, build}
 use Rattle.ray_tracing.specs.Submission as submission
-use Rattle.ray_tracing.specs.Report.{ascii, decimal, positions, outcomeOf, report, Reporting, reporting}
+use Rattle.ray_tracing.specs.Report.{ascii, decimal, positions, sheetOutcome, report, Reporting, reporting}
 
 infix 90 _is_
 -- What is refused
@@ -37,17 +36,17 @@ outcomeRefusal a places (submission._leaving_ (submission.refused i c) l) = acti
 
 unfoldable pub submitRefusal : ℕ → Tables → Bool → List ℕ → Refusal
 submitRefusal counter x wasRecorded a =
-    outcomeRefusal a (positions wasRecorded a 0 (length a / size 9)) (outcomeOf counter x wasRecorded a)
+    outcomeRefusal a (positions wasRecorded a 0 (length a / size 9)) (sheetOutcome counter x wasRecorded a)
 
-abbrev pub answerRefusal : ℕ → Tables → List ℕ → Answer → Refusal
+abbrev pub answerRefusal : ℕ → Tables → List ℕ → Building → Refusal
 answerRefusal counter x a (not-built e f c) = of-build e f c
 answerRefusal counter x a (nothing-recorded n) = submitRefusal counter x false a
 answerRefusal counter x a (recorded size w) = submitRefusal counter x true a
 
 unfoldable pub builtRefusal : List ℕ → Sheet → Refusal
 builtRefusal s x =
-    answerRefusal (x .counter) (tablesOf (x .alignment) (table s)) (table s 9)
-    (build (tablesOf (x .alignment) (table s)) (planOf (tablesOf (x .alignment) (table s))))
+    answerRefusal (x .counter) (sheetTables (x .alignment) (table s)) (table s 9)
+    (build (sheetTables (x .alignment) (table s)) (planOf (sheetTables (x .alignment) (table s))))
 
 abbrev pub readingRefusal : List ℕ → Reading → Refusal
 readingRefusal s (rejected n p) = of-sheet n p
@@ -186,10 +185,3 @@ explanation (of-action i kind c) = refusedLine (c .number) (kindWords kind is i 
 -- the report's lines, and the explanation below them
 unfoldable pub explained : List ℕ → List ℕ
 explained s = report s ++ explanation (refusalIn s)
-
--- written as a report is: 39 where it doesn't fit, and then nothing is written; past it the bytes are kept
-unfoldable pub explainRule : List ℕ → ℕ → Reporting
-explainRule s room = cond (ltb room (length (explained s))) (reporting 39 0) (reporting 0 (length (explained s)))
-
-unfoldable pub explainBytes : List ℕ → List ℕ → List ℕ
-explainBytes s out = cond (ltb (length out) (length (explained s))) out (sets out 0 (explained s))

@@ -275,6 +275,22 @@ pub enum Submitted {
     Refused(ValidateAsActionsError, usize, u64),
 }
 
+// The counter of Builds steps where it lies; the submission index never moves.
+#[repr(C)]
+pub struct CommandIndices {
+    pub active_submission_index: u64,
+    pub next_acceleration_structure_build_command_index: u64,
+}
+
+// What a submission came to, by the paper's numbers: number, action and two figures, 0 where it was accepted.
+#[repr(C)]
+pub struct Validated {
+    pub number: u64,
+    pub action: u64,
+    pub first: u64,
+    pub second: u64,
+}
+
 // What writing a sheet's lines comes to: so many bytes written, or too few were lent.
 pub enum Reported {
     Written(usize),

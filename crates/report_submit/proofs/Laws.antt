@@ -17,11 +17,10 @@ use Rattle.report_text.specs.Put.{Put}
 use Rattle.report_text.proofs.Laws.{put-nothing}
 use Rattle.ray_tracing.proofs.Plan.{left-more, left-none}
 use Rattle.ray_tracing.specs.declared.Submitted.{Submitted}
-use Rattle.ray_tracing.specs.Submission.{Lent, Answer, accepted, refused, _leaving_, decode, submission}
+use Rattle.ray_tracing.specs.Submission.{Lent, Answer, accepted, refused, _leaving_, decode, submission, outcomeOf, counterOf, answerOf, lentOf, pieceOf}
 use Rattle.ray_tracing.specs.Explain.{outcomeRefusal}
-use Rattle.submit_checks.specs.Outcome.{lentOf, answerOf, counterOf, outcomeOf}
-use Rattle.submit.specs.Numbers.{pieceOf}
-use Rattle.report_submit.specs.Parts.{actionsIn, listing, kindOf, keptCells, submissionOutcome, submissionLines}
+use Rattle.report_submit.specs.Parts.{actionsIn, kindOf, keptCells, submissionOutcome, submissionLines}
+use Rattle.ray_tracing.specs.Parts.{listing}
 use Rattle.report_submit.specs.Refused.{answerRefused, submissionRefusal}
 
 pub not-one : (b : Bool) → not b ≡ cond b false true

@@ -6,35 +6,12 @@ use lib.ListN.{length, replicate}
 use Rattle.ray_tracing.specs.Layout.{size}
 use Rattle.ray_tracing.specs.Records.{fieldAt}
 use Rattle.ray_tracing.specs.Plan.{Tables}
-use Rattle.ray_tracing.specs.Submission.{Outcome, mostDependencies, decode, submission}
+use Rattle.ray_tracing.specs.Submission.{Outcome, mostDependencies, decode, submission, lentOf, pieceOf}
 use Rattle.ray_tracing.specs.Report.{kept, cellsOf, actionCells, positions, outcomeLines}
-use Rattle.submit_checks.specs.Outcome.{lentOf}
-use Rattle.submit.specs.Numbers.{pieceOf}
 
 -- how many there are
-abbrev pub entriesIn : List ℕ → ℕ
-entriesIn entries = length entries / size 5
-
-abbrev pub packagesIn : List ℕ → ℕ
-packagesIn packages = length packages / size 7
-
 abbrev pub actionsIn : List ℕ → ℕ
 actionsIn actions = length actions / size 9
-
--- tables of which only the entries and the packages are looked at, as an action's cells are
-abbrev pub listing : List ℕ → List ℕ → Tables
-listing entries packages =
-    record {
-      alignment = 0;
-      buffers = [];
-      blases = [];
-      declared = [];
-      tlases = [];
-      entries = entries;
-      geometries = [];
-      packages = packages;
-      slots = [];
-    }
 
 -- the kind of action i
 abbrev pub kindOf : List ℕ → ℕ → ℕ

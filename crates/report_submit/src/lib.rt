@@ -16,9 +16,10 @@ ghost use Prim.Native.Nat.{_+_, _*_, _≤_, _<_};
 ghost use lib.ListN.{length, getD};
 ghost use lib.Seq.{sets};
 ghost use Rattle.ray_tracing.specs.Report.{line, word-submit, word-next, kept, actionCells, positions, submitNumbers};
-ghost use Rattle.submit_checks.specs.Outcome.{answerOf, counterOf};
+ghost use Rattle.ray_tracing.specs.Submission.{counterOf, answerOf};
 ghost use Rattle.report_text.specs.Put.{Put};
-ghost use Rattle.report_submit.specs.Parts.{entriesIn, packagesIn, actionsIn, listing, kindOf, keptCells, Lendable, submissionLines};
+ghost use Rattle.report_submit.specs.Parts.{actionsIn, kindOf, keptCells, Lendable, submissionLines};
+ghost use Rattle.ray_tracing.specs.Parts.{packagesIn, entriesIn, listing};
 ghost use Rattle.report_submit.specs.Refused.{refusalOf, answerRefused, submissionRefusal};
 
 // What a report tells of a refusal; it tells at most one. An action has its position in the sheet and its kind.

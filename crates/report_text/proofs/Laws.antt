@@ -11,7 +11,8 @@ use lib.ListN.{length, take, drop, getD, set, length-append, length-drop, length
 use lib.Seq.{sets, length-sets, take-all, drop-cons, drop-set-lt, getD-set-same, sets-eq, take-at}
 use borrow.Author.Tests.{lt-ltb, le-ltb}
 use Rattle.wire.proofs.Laws.{sets-append}
-use Rattle.ray_tracing.specs.Report.{digits, decimal, spaced, line, longestLine}
+use Rattle.ray_tracing.specs.Report.{digits, decimal, spaced, line}
+use Rattle.ray_tracing.specs.Sizes.{longestLine}
 use Rattle.report_text.specs.Put.{Put}
 
 -- ---- one text after another

@@ -3,7 +3,8 @@ ghost use mathlib.Core.Path.{_≡_};
 ghost use Prim.Native.Nat.{_+_, _*_, _≤_};
 ghost use mathlib.Core.List.{[], _∷_};
 ghost use lib.ListN.{length};
-ghost use Rattle.ray_tracing.specs.Report.{decimal, spaced, line, longestLine};
+ghost use Rattle.ray_tracing.specs.Report.{decimal, spaced, line};
+ghost use Rattle.ray_tracing.specs.Sizes.{longestLine};
 ghost use Rattle.report_text.specs.Put.{Put};
 
 // Each of these writes from index `at` on and returns the index past what it wrote.

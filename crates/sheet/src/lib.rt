@@ -16,7 +16,8 @@ ghost use mathlib.Core.Path.{_≡_};
 ghost use Prim.Native.Nat.{_+_, _≤_, _<_};
 ghost use lib.ListN.{length};
 ghost use Rattle.ray_tracing.specs.Reading.{judgeSection, readSheet};
-ghost use Rattle.ray_tracing.specs.Causes.{judgedOf, readingOf};
+ghost use Rattle.ray_tracing.specs.Causes.{readingOf};
+ghost use Rattle.ray_tracing.specs.Code.{judgedOf};
 ghost use Rattle.sheet.specs.Count.{countAt};
 ghost use Rattle.sheet.specs.Found.{judgeHeader, sectionIn, sheetFrom};
 

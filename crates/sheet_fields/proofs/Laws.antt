@@ -11,7 +11,7 @@ use lib.ListN.{length, getD, List·getD-eq-default}
 use borrow.Author.Tests.{ne-eqb, eqb-true, le-ltb, lt-ltb, ltb-true, leb-true}
 use Rattle.wire.specs.Wire.{leAt}
 use Rattle.ray_tracing.specs.Layout.{Seen, Field, fits, layout, size, total, always, any, wide}
-use Rattle.ray_tracing.specs.Reading.{Judged, fine, refused, on, _or_, begin, judgeFields}
+use Rattle.ray_tracing.specs.Reading.{Judged, fine, refused, judgedWhen, _andNext_, begin, judgeFields}
 use Rattle.sheet_fields.specs.Table.{
   untagged,
   View,
@@ -108,7 +108,7 @@ abbrev rest : List View → List View
 rest [] = []
 rest (x ∷ xs) = xs
 
-or-assoc : (a b c : Judged) → ((a or b) or c) ≡ (a or b or c)
+or-assoc : (a b c : Judged) → ((a andNext b) andNext c) ≡ (a andNext b andNext c)
 or-assoc fine b c = refl
 or-assoc (refused n p) b c = refl
 
@@ -126,7 +126,7 @@ by-views (f ∷ fs) e c s p =
     let a : untagged (f .after c v) ≡ untagged (f .after (untagged c) v) = ap (λ (x : View). x .after c v) same in
     let b : fits f c v ≡ fits f (untagged c) v = ap (λ (x : View). x .fits c v) same in
     rw (← a, ← b, by-views fs (ap rest e) (f .after c v) s (p + f .width))
-    (sym (or-assoc (on (ltb (length s) (p + f .width)) (refused 2 p)) (on (not (fits f c v)) (refused 5 p)) _))
+    (sym (or-assoc (judgedWhen (ltb (length s) (p + f .width)) (refused 2 p)) (judgedWhen (not (fits f c v)) (refused 5 p)) _))
 
 abbrev bytes : List View → ℕ
 bytes [] = 0

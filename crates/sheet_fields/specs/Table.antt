@@ -8,7 +8,7 @@ use lib.ListN.{length, getD}
 use lib.Dec.{ltb, eqb}
 use Rattle.wire.specs.Wire.{leAt}
 use Rattle.ray_tracing.specs.Layout.{Seen, Field, fits, always, triangles, withBuffer, any, upTo, bit, zeroOr, oneTo, positive, inside, notNone, kindKnown, noneKnown}
-use Rattle.ray_tracing.specs.Reading.{Judged, fine, refused, on, _or_}
+use Rattle.ray_tracing.specs.Reading.{Judged, fine, refused, judgedWhen, _andNext_}
 
 -- the tag decides nothing in judging
 abbrev pub untagged : Seen → Seen
@@ -28,9 +28,9 @@ view f = record { width = f .width; fits = fits f; after = λ c v. untagged (f .
 unfoldable pub judgeViews : Seen → List ℕ → ℕ → List View → Judged
 judgeViews c s at [] = fine
 judgeViews c s at (f ∷ fs) =
-    on (ltb (length s) (at + f .width)) (refused 2 at)
-    or on (not (f .fits c (leAt (f .width) s at))) (refused 5 at)
-    or judgeViews (f .after c (leAt (f .width) s at)) s (at + f .width) fs
+    judgedWhen (ltb (length s) (at + f .width)) (refused 2 at)
+    andNext judgedWhen (not (f .fits c (leAt (f .width) s at))) (refused 5 at)
+    andNext judgeViews (f .after c (leAt (f .width) s at)) s (at + f .width) fs
 
 -- a rule: when the field is used, and the values that it may have then
 abbrev pub rule : (Seen → Bool) → (Seen → ℕ → Bool) → Seen → ℕ → Bool

@@ -19,7 +19,7 @@ ghost use lib.ListN.{length, getD};
 ghost use Rattle.wire.specs.Wire.{leAt};
 ghost use Rattle.ray_tracing.specs.Layout.{layout};
 ghost use Rattle.ray_tracing.specs.Reading.{begin, judgeFields, judgeRecords};
-ghost use Rattle.ray_tracing.specs.Causes.{judgedOf};
+ghost use Rattle.ray_tracing.specs.Code.{judgedOf};
 ghost use Rattle.sheet_fields.specs.Table.{firsts, ruled, seen, judgeViews, ruleOf, fieldsFrom, isWidth, Widths};
 
 // The rules of `fits` by number, and two more: a Blas of section 2, and an id that may be 65535, none.

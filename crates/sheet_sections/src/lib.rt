@@ -13,7 +13,7 @@ ghost use Prim.Native.Nat.{_+_, _-_, _/_, _≤_, _<_};
 ghost use lib.ListN.{length};
 ghost use Rattle.ray_tracing.specs.Layout.{layout, size};
 ghost use Rattle.ray_tracing.specs.Reading.{judgeDrawn, judgeTable, judgeLent, judgeSection};
-ghost use Rattle.ray_tracing.specs.Causes.{judgedOf};
+ghost use Rattle.ray_tracing.specs.Code.{judgedOf};
 
 // The geometries that the entries draw in turn, each by its entry's kind.
 fn judge_drawn(s: &[u8], at: usize, entries: &[u8]) -> Judged

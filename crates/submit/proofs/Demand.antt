@@ -5,13 +5,12 @@ use mathlib.Core.Path.{_≡_, refl, sym, ap}
 use mathlib.Core.Option.{none}
 use mathlib.Core.List.{List}
 use Rattle.ray_tracing.specs.declared.Submitted.{Submitted}
-use Rattle.ray_tracing.specs.Submission.{Lent, Outcome, Answer, _leaving_, decode, judge, submission}
+use Rattle.ray_tracing.specs.Submission.{Lent, Outcome, Answer, _leaving_, decode, judge, submission, counterOf, answerOf, pieceOf}
 use Rattle.ray_tracing.specs.Claim.{Call, Demand-3}
 use Rattle.ray_tracing.proofs.Demand3.{demand-3}
-use Rattle.submit_checks.specs.Outcome.{answerOf, counterOf}
 use Rattle.submit.specs.declared.CommandIndices.{CommandIndices}
 use Rattle.submit.specs.declared.Validated.{Validated}
-use Rattle.submit.specs.Numbers.{Told, pieceOf, told, toldOf}
+use Rattle.submit.specs.Numbers.{Shown, shown, shownOf}
 use Rattle.submit.specs.Demand.{Buffers, lent, Submits, Validates, Told-call}
 
 -- `submit`'s promise is `Call`
@@ -42,9 +41,9 @@ validate-is-call i x a l v j y e =
         v
         (lent (j .«next_acceleration_structure_build_command_index») y)
     go (b leaving m) p =
-        let t : toldOf v (y .blases) (y .tlases) (y .dependencyCounts) (y .dependencies) ≡ told (b leaving m) = rw p at (e .tells) in
-        let q : lent (j .«next_acceleration_structure_build_command_index») y ≡ m = rw (e .counter) (ap (λ (s : Told). s .left) t) in
-        record { answer = b; is = rw q (sym p); numbers = ap (λ (s : Told). s .numbers) t }
+        let t : shownOf v (y .blases) (y .tlases) (y .dependencyCounts) (y .dependencies) ≡ shown (b leaving m) = rw p at (e .tells) in
+        let q : lent (j .«next_acceleration_structure_build_command_index») y ≡ m = rw (e .counter) (ap (λ (s : Shown). s .left) t) in
+        record { answer = b; is = rw q (sym p); numbers = ap (λ (s : Shown). s .numbers) t }
 
 -- demand 3, of whatever a station lends: any start that is not refused
 pub demand-3-of-the-routines :

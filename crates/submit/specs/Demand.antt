@@ -3,12 +3,11 @@ use Prim.Native.Nat.{ℕ}
 use mathlib.Core.Path.{_≡_}
 use mathlib.Core.List.{List}
 use Rattle.ray_tracing.specs.declared.Submitted.{Submitted}
-use Rattle.ray_tracing.specs.Submission.{Lent, Piece, Answer, answerNumbers, decode, submission}
+use Rattle.ray_tracing.specs.Submission.{Lent, Piece, Answer, answerNumbers, decode, submission, outcomeOf, lentOf, pieceOf}
 use Rattle.ray_tracing.specs.Claim.{Call}
-use Rattle.submit_checks.specs.Outcome.{lentOf, outcomeOf}
 use Rattle.submit.specs.declared.CommandIndices.{CommandIndices}
 use Rattle.submit.specs.declared.Validated.{Validated}
-use Rattle.submit.specs.Numbers.{pieceOf, told, toldOf, numbersOf}
+use Rattle.submit.specs.Numbers.{shown, shownOf, numbersOf}
 
 -- the four lent buffers
 pub record Buffers : Type 0 where
@@ -28,8 +27,8 @@ Submits n x a l r y =
 -- a call of `validate_acceleration_structure_actions`: the indices i before it and j after it
 pub record Validates (i : CommandIndices) (x : Buffers) (a l : List ℕ) (v : Validated) (j : CommandIndices) (y : Buffers) : Type 0 where
   pub tells :
-      toldOf v (y .blases) (y .tlases) (y .dependencyCounts) (y .dependencies)
-      ≡ told (submission (lent (i .«next_acceleration_structure_build_command_index») x) (decode (pieceOf a l)))
+      shownOf v (y .blases) (y .tlases) (y .dependencyCounts) (y .dependencies)
+      ≡ shown (submission (lent (i .«next_acceleration_structure_build_command_index») x) (decode (pieceOf a l)))
   pub counter : j .«next_acceleration_structure_build_command_index» ≡ v .counter
   pub unmoved : j .«active_submission_index» ≡ i .«active_submission_index»
 

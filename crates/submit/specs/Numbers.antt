@@ -1,23 +1,19 @@
 -- What a submission comes to, by the paper's numbers. Assumes nothing.
 use Prim.Native.Nat.{ℕ}
 use mathlib.Core.List.{List}
-use Rattle.ray_tracing.specs.Submission.{Lent, Piece, Outcome, _leaving_, Numbers, answerNumbers}
-use Rattle.submit_checks.specs.Outcome.{lentOf}
+use Rattle.ray_tracing.specs.Submission.{Lent, Piece, Outcome, _leaving_, Numbers, answerNumbers, lentOf}
 use Rattle.submit.specs.declared.Validated.{Validated}
 
-abbrev pub pieceOf : List ℕ → List ℕ → Piece
-pieceOf actions lists = record { actions = actions; lists = lists }
-
 -- what a caller is told, and what is left
-pub record Told : Type 0 where
+pub record Shown : Type 0 where
   pub numbers : Numbers
   pub left : Lent
 
-abbrev pub told : Outcome → Told
-told (a leaving l) = record { numbers = answerNumbers a; left = l }
+abbrev pub shown : Outcome → Shown
+shown (a leaving l) = record { numbers = answerNumbers a; left = l }
 
 abbrev pub numbersOf : Validated → Numbers
 numbersOf v = record { number = v .number; action = v .action; first = v .first; second = v .second }
 
-abbrev pub toldOf : Validated → List ℕ → List ℕ → List ℕ → List ℕ → Told
-toldOf v b t c d = record { numbers = numbersOf v; left = lentOf (v .counter) b t c d }
+abbrev pub shownOf : Validated → List ℕ → List ℕ → List ℕ → List ℕ → Shown
+shownOf v b t c d = record { numbers = numbersOf v; left = lentOf (v .counter) b t c d }

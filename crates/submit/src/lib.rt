@@ -6,9 +6,8 @@ use submit_checks::submitted;
 use submit_run::run;
 use submit_start::judge_start;
 ghost use mathlib.Core.Path.{_≡_};
-ghost use Rattle.ray_tracing.specs.Submission.{decode, submission, answerNumbers};
-ghost use Rattle.submit_checks.specs.Outcome.{lentOf, answerOf, counterOf, outcomeOf};
-ghost use Rattle.submit.specs.Numbers.{pieceOf, told, numbersOf, toldOf};
+ghost use Rattle.ray_tracing.specs.Submission.{decode, submission, answerNumbers, outcomeOf, counterOf, answerOf, lentOf, pieceOf};
+ghost use Rattle.submit.specs.Numbers.{shown, numbersOf, shownOf};
 
 // A submission: the start is judged, then the actions in turn.
 pub fn submit(
@@ -94,8 +93,8 @@ pub fn submit_numbers(
     actions: &[u32],
     lists: &[u16],
 ) -> Validated
-    ensures { λ r. ⌜ toldOf r (now (blases .exit)) (now (tlases .exit)) (now («dependency_counts» .exit)) (now (dependencies .exit))
-        ≡ told (submission (lentOf counter (now (blases .entry)) (now (tlases .entry)) (now («dependency_counts» .entry)) (now (dependencies .entry))) (decode (pieceOf (now (actions .entry)) (now (lists .entry))))) ⌝ }
+    ensures { λ r. ⌜ shownOf r (now (blases .exit)) (now (tlases .exit)) (now («dependency_counts» .exit)) (now (dependencies .exit))
+        ≡ shown (submission (lentOf counter (now (blases .entry)) (now (tlases .entry)) (now («dependency_counts» .entry)) (now (dependencies .entry))) (decode (pieceOf (now (actions .entry)) (now (lists .entry))))) ⌝ }
 {
     answered(submit(
         counter,
@@ -117,8 +116,8 @@ pub fn validate_acceleration_structure_actions(
     actions: &[u32],
     lists: &[u16],
 ) -> Validated
-    ensures { λ r. ⌜ (toldOf r (now (blases .exit)) (now (tlases .exit)) (now («dependency_counts» .exit)) (now (dependencies .exit))
-        ≡ told (submission (lentOf (now (indices .entry) .«next_acceleration_structure_build_command_index») (now (blases .entry)) (now (tlases .entry)) (now («dependency_counts» .entry)) (now (dependencies .entry))) (decode (pieceOf (now (actions .entry)) (now (lists .entry))))))
+    ensures { λ r. ⌜ (shownOf r (now (blases .exit)) (now (tlases .exit)) (now («dependency_counts» .exit)) (now (dependencies .exit))
+        ≡ shown (submission (lentOf (now (indices .entry) .«next_acceleration_structure_build_command_index») (now (blases .entry)) (now (tlases .entry)) (now («dependency_counts» .entry)) (now (dependencies .entry))) (decode (pieceOf (now (actions .entry)) (now (lists .entry))))))
         × (now (indices .exit) .«next_acceleration_structure_build_command_index» ≡ r .counter)
         × (now (indices .exit) .«active_submission_index» ≡ now (indices .entry) .«active_submission_index») ⌝ }
 {

@@ -9,8 +9,8 @@ use lib.ListN.{length, getD, drop, set}
 use lib.Seq.{sets}
 use Rattle.ray_tracing.specs.declared.ValidateAsActionsError.{ValidateAsActionsError}
 use Rattle.ray_tracing.specs.Causes.{Cause}
-use Rattle.ray_tracing.specs.Submission.{Lent, Package, Outcome, accepted, _leaving_, _then_, unless, first, unnumbered, builtBlas, builtBlases, builtTlas, buildTlas, buildTlases, mostDependencies}
-use Rattle.submit_checks.specs.Outcome.{lentOf, checkedOf, actedOf}
+use Rattle.ray_tracing.specs.Submission.{Lent, Package, Outcome, accepted, _leaving_, _followedBy_, unlessCause, first, unnumbered, builtBlas, builtBlases, builtTlas, buildTlas, buildTlases, mostDependencies, lentOf}
+use Rattle.submit_checks.specs.Outcome.{causeOf, actedOf}
 use Rattle.submit_checks.specs.declared.Checked.{Checked}
 use Rattle.submit_checks.specs.declared.Checked.the-variants.{Fine, Refused}
 use Rattle.submit_checks.proofs.Walks.{rest-step, rest-done, refusal, nothing}
@@ -31,7 +31,7 @@ copy-done d at s k h = rw (rest-done s k h)
 
 -- ---- a Tlas of a Build
 
-module _ (n : ℕ) (p : Package) (l : Lent) {x : Checked} (k : checkedOf x ≡ first (unnumbered l (p .tlas)) (p .dependencies)) where
+module _ (n : ℕ) (p : Package) (l : Lent) {x : Checked} (k : causeOf x ≡ first (unnumbered l (p .tlas)) (p .dependencies)) where
   pub tlas-refused : {e : ValidateAsActionsError} → x ≡ Refused e → actedOf x l ≡ buildTlases n (p ∷ []) l
   unfolding buildTlases
   tlas-refused q = ap (λ (y : Checked). actedOf y l) q ∙ rw (refusal k q)
@@ -43,11 +43,11 @@ module _ (n : ℕ) (p : Package) (l : Lent) {x : Checked} (k : checkedOf x ≡ f
   tlas-built q e f g = rw (nothing k q, e, f, g)
 
 -- a Tlas, then those after it
-tlases-turn : (n : ℕ) (p : Package) (ps : List Package) (l : Lent) → buildTlases n (p ∷ ps) l ≡ (buildTlases n (p ∷ []) l then λ r. buildTlases n ps r)
+tlases-turn : (n : ℕ) (p : Package) (ps : List Package) (l : Lent) → buildTlases n (p ∷ ps) l ≡ (buildTlases n (p ∷ []) l followedBy λ r. buildTlases n ps r)
 unfolding buildTlases
 tlases-turn n p ps l = go (first (unnumbered l (p .tlas)) (p .dependencies))
   where
-    go : (o : Option Cause) → unless o l (buildTlases n ps (buildTlas n p l)) ≡ (unless o l (accepted leaving buildTlas n p l) then λ r. buildTlases n ps r)
+    go : (o : Option Cause) → unlessCause o l (buildTlases n ps (buildTlas n p l)) ≡ (unlessCause o l (accepted leaving buildTlas n p l) followedBy λ r. buildTlases n ps r)
     go none = refl
     go (some c) = refl
 

@@ -7,8 +7,8 @@ use Prim.Native.Nat.{ℕ, _+_, _≤_}
 use native.Mathlib.Decide.{decLt}
 use native.Mathlib.Omega.{arith}
 use lib.ListN.{length, take, drop}
-use Rattle.ray_tracing.specs.Submission.{Lent, Package, Action, build, malformed, Outcome, blasCount, tlasCount, packagesAt, packagesLent, buildAt, before, builtBlases, buildTlases, act}
-use Rattle.submit_checks.specs.Outcome.{lentOf, stepped}
+use Rattle.ray_tracing.specs.Submission.{Lent, Package, Action, build, malformed, Outcome, blasCount, tlasCount, packagesAt, packagesLent, buildAt, before, builtBlases, buildTlases, act, lentOf}
+use Rattle.submit_checks.specs.Outcome.{stepped}
 use Rattle.submit_checks.specs.Known.{Inside, AllListed}
 use Rattle.submit_build_checks.proofs.Judging.{known-build, build-short, build-cut, build-whole, before-malformed}
 

@@ -5,8 +5,8 @@ use mathlib.Core.List.{List, _∷_}
 use Prim.Native.Nat.{ℕ, _+_, _-_, _≤_, _<_}
 use native.Mathlib.Nat.{add-sub-cancel-left}
 use lib.ListN.{length, getD, take, drop}
-use Rattle.ray_tracing.specs.Submission.{Package, packageAt, pastPackage, packagesAt, packagesLent, buildTlases}
-use Rattle.submit_checks.specs.Outcome.{lentOf, packageOf, stepped}
+use Rattle.ray_tracing.specs.Submission.{Package, packageFrom, pastPackage, packagesAt, packagesLent, buildTlases, lentOf}
+use Rattle.submit_checks.specs.Outcome.{packageWith, stepped}
 use Rattle.submit_checks.specs.Known.{blasesIn, tlasesIn, Listed, AllListed}
 use Rattle.submit_build_checks.proofs.Packages.{packages-step, lent-first, lent-rest}
 
@@ -27,7 +27,7 @@ all-step nb nt e h = rw e at h
 -- the Tlas of this turn, and those after it
 pub record Turn (nb nt : ℕ) (lists : List ℕ) (left at : ℕ) : Type 0 where
   pub whole : pastPackage lists at ≤ length lists
-  pub listed : Listed nb nt (packageAt lists at)
+  pub listed : Listed nb nt (packageFrom lists at)
   pub lent : packagesLent lists (pastPackage lists at) (left - 1) ≡ true
   pub rest : AllListed nb nt (packagesAt lists (pastPackage lists at) (left - 1))
 
@@ -37,6 +37,6 @@ turn nb nt lists left at h e a =
     record { whole = lent-first lists at left h e; listed = x .0; lent = lent-rest lists at left h e; rest = x .1 }
 
 -- as the part of the lists that is passed on
-pub listed-part : (nb : ℕ) (t₀ t lists : List ℕ) (at : ℕ) → Listed nb (tlasesIn t₀) (packageAt lists at) → length t ≡ length t₀
-    → Listed nb (tlasesIn t) (packageOf (getD lists at 0) (take (pastPackage lists at - (at + 2)) (drop (at + 2) lists)))
+pub listed-part : (nb : ℕ) (t₀ t lists : List ℕ) (at : ℕ) → Listed nb (tlasesIn t₀) (packageFrom lists at) → length t ≡ length t₀
+    → Listed nb (tlasesIn t) (packageWith (getD lists at 0) (take (pastPackage lists at - (at + 2)) (drop (at + 2) lists)))
 listed-part nb t₀ t lists at h e = rw (add-sub-cancel-left, e) h

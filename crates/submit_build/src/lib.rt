@@ -16,9 +16,9 @@ ghost use mathlib.Core.List.{[], _∷_};
 ghost use Prim.Native.Nat.{_+_, _^_, _≤_, _<_};
 ghost use lib.ListN.{length};
 ghost use lib.Seq.{sets};
-ghost use Rattle.ray_tracing.specs.Submission.{first, judge, packagesAt, packagesLent, buildAt, later, before, builtBlas, builtBlases, builtTlas, unnumbered, buildTlases, act, step, build};
-ghost use Rattle.submit_checks.specs.Outcome.{lentOf, blasesOf, packageOf, stepped, checkedOf, actedOf, outcomeOf};
-ghost use Rattle.submit_checks.specs.Known.{blasesIn, tlasesIn, Inside, Room, Listed, AllListed};
+ghost use Rattle.ray_tracing.specs.Submission.{first, judge, packagesAt, packagesLent, buildAt, later, before, builtBlas, builtBlases, builtTlas, unnumbered, buildTlases, act, step, build, outcomeOf, lentOf};
+ghost use Rattle.submit_checks.specs.Outcome.{blasesOf, packageWith, stepped, causeOf, actedOf};
+ghost use Rattle.submit_checks.specs.Known.{blasesIn, tlasesIn, Inside, ListRoom, Listed, AllListed};
 
 // A Blas that a Build built.
 fn mark_blas(blases: &mut [u8], id: BlasId, number: u64)
@@ -64,7 +64,7 @@ fn put_list(cells: &mut [u16], at: usize, list: &[u16])
 // 42 of a Build.
 fn judge_numbers(blases: &[u8], tlas: TlasId, ids: &[u16]) -> Checked
     requires { ⌜ Inside (now ids) (blasesIn (now blases)) ⌝ }
-    ensures { λ r. ⌜ checkedOf r ≡ first (unnumbered (blasesOf (now (blases .entry))) (tlas .0)) (now (ids .entry)) ⌝ }
+    ensures { λ r. ⌜ causeOf r ≡ first (unnumbered (blasesOf (now (blases .entry))) (tlas .0)) (now (ids .entry)) ⌝ }
 {
     let mut k = 0;
     while k < ids.len() {
@@ -88,10 +88,10 @@ fn build_tlas(
     tlas: TlasId,
     ids: &[u16],
 ) -> Checked
-    requires { ⌜ Listed (blasesIn (now blases)) (tlasesIn (now tlases)) (packageOf (tlas .0) (now ids)) ⌝ }
-    requires { ⌜ Room (tlasesIn (now tlases)) (now «dependency_counts») (now dependencies) ⌝ }
+    requires { ⌜ Listed (blasesIn (now blases)) (tlasesIn (now tlases)) (packageWith (tlas .0) (now ids)) ⌝ }
+    requires { ⌜ ListRoom (tlasesIn (now tlases)) (now «dependency_counts») (now dependencies) ⌝ }
     ensures { λ r. ⌜ actedOf r (lentOf (stepped number) (now (blases .entry)) (now (tlases .exit)) (now («dependency_counts» .exit)) (now (dependencies .exit)))
-        ≡ buildTlases number (packageOf (tlas .0) (now (ids .entry)) ∷ []) (lentOf (stepped number) (now (blases .entry)) (now (tlases .entry)) (now («dependency_counts» .entry)) (now (dependencies .entry))) ⌝ }
+        ≡ buildTlases number (packageWith (tlas .0) (now (ids .entry)) ∷ []) (lentOf (stepped number) (now (blases .entry)) (now (tlases .entry)) (now («dependency_counts» .entry)) (now (dependencies .entry))) ⌝ }
 {
     let checked = judge_numbers(blases, tlas, ids);
     if let Checked::Refused(_) = checked {
@@ -117,7 +117,7 @@ fn build_tlases(
 ) -> Checked
     requires { ⌜ packagesLent (now lists) start «tlas_count» ≡ true ⌝ }
     requires { ⌜ AllListed (blasesIn (now blases)) (tlasesIn (now tlases)) (packagesAt (now lists) start «tlas_count») ⌝ }
-    requires { ⌜ Room (tlasesIn (now tlases)) (now «dependency_counts») (now dependencies) ⌝ }
+    requires { ⌜ ListRoom (tlasesIn (now tlases)) (now «dependency_counts») (now dependencies) ⌝ }
     ensures { λ r. ⌜ actedOf r (lentOf (stepped number) (now (blases .entry)) (now (tlases .exit)) (now («dependency_counts» .exit)) (now (dependencies .exit)))
         ≡ buildTlases number (packagesAt (now (lists .entry)) start «tlas_count») (lentOf (stepped number) (now (blases .entry)) (now (tlases .entry)) (now («dependency_counts» .entry)) (now (dependencies .entry))) ⌝ }
 {
@@ -158,7 +158,7 @@ fn build(
     tlas_count: usize,
 ) -> Checked
     requires { ⌜ before (lentOf number (now blases) (now tlases) [] []) (buildAt (now lists) start «blas_count» «tlas_count») ≡ none ⌝ }
-    requires { ⌜ Room (tlasesIn (now tlases)) (now «dependency_counts») (now dependencies) ⌝ }
+    requires { ⌜ ListRoom (tlasesIn (now tlases)) (now «dependency_counts») (now dependencies) ⌝ }
     ensures { λ r. ⌜ actedOf r (lentOf (stepped number) (now (blases .exit)) (now (tlases .exit)) (now («dependency_counts» .exit)) (now (dependencies .exit)))
         ≡ act (lentOf number (now (blases .entry)) (now (tlases .entry)) (now («dependency_counts» .entry)) (now (dependencies .entry))) (buildAt (now (lists .entry)) start «blas_count» «tlas_count») ⌝ }
 {

@@ -9,10 +9,10 @@ use lib.ListN.{length, drop, take}
 use borrow.Author.Tests.{le-leb, lt-leb, lt-ltb, le-ltb, eq-eqb, ne-eqb}
 use Rattle.ray_tracing.specs.declared.ValidateAsActionsError.{ValidateAsActionsError}
 use Rattle.ray_tracing.specs.Causes.{Cause, bare}
-use Rattle.ray_tracing.specs.Submission.{Lent, Package, on, _or_, first, blasCount, tlasCount, mentionBlas, mentionTlas, mentionPackage, tooMany, compacted, packagesAt, packagesLent, Action, build, malformed, buildAt, before, mostDependencies}
+use Rattle.ray_tracing.specs.Submission.{Lent, Package, causeWhen, _orElse_, first, blasCount, tlasCount, mentionBlas, mentionTlas, mentionPackage, tooMany, compacted, packagesAt, packagesLent, Action, build, malformed, buildAt, before, mostDependencies}
 use Rattle.ray_tracing.proofs.Sound.{fit}
 use Rattle.ray_tracing.proofs.Firsts.{or-none, inside, within}
-use Rattle.submit_checks.specs.Outcome.{checkedOf}
+use Rattle.submit_checks.specs.Outcome.{causeOf}
 use Rattle.submit_checks.specs.Known.{Inside, Listed, AllListed}
 use Rattle.submit_checks.specs.declared.Checked.{Checked}
 use Rattle.submit_checks.specs.declared.Checked.the-variants.{Fine, Refused}
@@ -22,7 +22,7 @@ use Rattle.submit_build_checks.proofs.Packages.{tooLong}
 
 -- ---- nothing was refused
 
-pub or-assoc : (a b c : Option Cause) → ((a or b) or c) ≡ (a or (b or c))
+pub or-assoc : (a b c : Option Cause) → ((a orElse b) orElse c) ≡ (a orElse (b orElse c))
 or-assoc none b c = refl
 or-assoc (some x) b c = refl
 
@@ -50,16 +50,16 @@ module _ (l : Lent) (bs : List ℕ) (ps : List Package) where
   unfolding before
   many-blases h = rw (lt-ltb _ _ h)
 
-  in-order : length bs ≤ 64 → before l (build bs ps) ≡ (tooMany [] ps or ((first (mentionBlas l) bs or first (mentionPackage l) ps) or (on (eqb (l .counter) 0) (bare 40) or first (compacted l) bs)))
+  in-order : length bs ≤ 64 → before l (build bs ps) ≡ (tooMany [] ps orElse ((first (mentionBlas l) bs orElse first (mentionPackage l) ps) orElse (causeWhen (eqb (l .counter) 0) (bare 40) orElse first (compacted l) bs)))
   unfolding before
-  in-order h = rw (le-ltb _ _ h, or-assoc (first (mentionBlas l) bs) (first (mentionPackage l) ps) (on (eqb (l .counter) 0) (bare 40) or first (compacted l) bs))
+  in-order h = rw (le-ltb _ _ h, or-assoc (first (mentionBlas l) bs) (first (mentionPackage l) ps) (causeWhen (eqb (l .counter) 0) (bare 40) orElse first (compacted l) bs))
 
-  module _ (h : length bs ≤ 64) {x : Checked} (p : checkedOf x ≡ tooMany [] ps) where
-    pub refused-4 : {e : ValidateAsActionsError} → x ≡ Refused e → checkedOf x ≡ before l (build bs ps)
+  module _ (h : length bs ≤ 64) {x : Checked} (p : causeOf x ≡ tooMany [] ps) where
+    pub refused-4 : {e : ValidateAsActionsError} → x ≡ Refused e → causeOf x ≡ before l (build bs ps)
     refused-4 q = or-stop _ p q ∙ sym (in-order h)
 
-    module _ (q : x ≡ Fine) {y : Checked} (r : checkedOf y ≡ (first (mentionBlas l) bs or first (mentionPackage l) ps)) where
-      pub refused-6 : {e : ValidateAsActionsError} → y ≡ Refused e → checkedOf y ≡ before l (build bs ps)
+    module _ (q : x ≡ Fine) {y : Checked} (r : causeOf y ≡ (first (mentionBlas l) bs orElse first (mentionPackage l) ps)) where
+      pub refused-6 : {e : ValidateAsActionsError} → y ≡ Refused e → causeOf y ≡ before l (build bs ps)
       refused-6 s = or-pass p q (or-stop _ r s) ∙ sym (in-order h)
 
       module _ (s : y ≡ Fine) where

@@ -12,9 +12,9 @@ use lib.Dec.{ltb}
 use lib.ListN.{length, getD, length-take, length-drop}
 use borrow.Author.Tests.{le-leb, lt-leb, lt-ltb, le-ltb}
 use Rattle.ray_tracing.specs.Causes.{Cause, bare}
-use Rattle.ray_tracing.specs.Submission.{Package, on, _or_, first, packageAt, pastPackage, packagesAt, packagesLent, tooMany, mostDependencies}
+use Rattle.ray_tracing.specs.Submission.{Package, causeWhen, _orElse_, first, packageFrom, pastPackage, packagesAt, packagesLent, tooMany, mostDependencies}
 
-pub packages-step : (lists : List ℕ) (at n : ℕ) → 0 < n → packagesAt lists at n ≡ packageAt lists at ∷ packagesAt lists (pastPackage lists at) (n - 1)
+pub packages-step : (lists : List ℕ) (at n : ℕ) → 0 < n → packagesAt lists at n ≡ packageFrom lists at ∷ packagesAt lists (pastPackage lists at) (n - 1)
 unfolding packagesAt
 packages-step lists at zero h = absurd (not-suc-le-zero h)
 packages-step lists at (suc n) h = rw sub-one
@@ -61,16 +61,16 @@ lent-rest lists at n h e = sym (lent-step lists at n h (lent-first lists at n h 
 
 -- a list of its own above 512
 abbrev pub tooLong : Package → Option Cause
-tooLong p = on (ltb mostDependencies (length (p .dependencies))) (bare 4)
+tooLong p = causeWhen (ltb mostDependencies (length (p .dependencies))) (bare 4)
 
 -- a list that is lent whole is as long as its count says
-pub whole-length : (lists : List ℕ) (at : ℕ) → pastPackage lists at ≤ length lists → length (packageAt lists at .dependencies) ≡ getD lists (at + 1) 0
+pub whole-length : (lists : List ℕ) (at : ℕ) → pastPackage lists at ≤ length lists → length (packageFrom lists at .dependencies) ≡ getD lists (at + 1) 0
 whole-length lists at h = rw (length-take, length-drop) (omega arith)
 
-pub is-long : (lists : List ℕ) (at : ℕ) → pastPackage lists at ≤ length lists → 512 < getD lists (at + 1) 0 → tooLong (packageAt lists at) ≡ some (bare 4)
+pub is-long : (lists : List ℕ) (at : ℕ) → pastPackage lists at ≤ length lists → 512 < getD lists (at + 1) 0 → tooLong (packageFrom lists at) ≡ some (bare 4)
 is-long lists at h k = rw (whole-length lists at h, lt-ltb _ _ k)
 
-pub not-long : (lists : List ℕ) (at : ℕ) → pastPackage lists at ≤ length lists → getD lists (at + 1) 0 ≤ 512 → tooLong (packageAt lists at) ≡ none
+pub not-long : (lists : List ℕ) (at : ℕ) → pastPackage lists at ≤ length lists → getD lists (at + 1) 0 ≤ 512 → tooLong (packageFrom lists at) ≡ none
 not-long lists at h k = rw (whole-length lists at h, le-ltb _ _ k)
 
 pub many-tlases : (lists : List ℕ) (at n : ℕ) → 32 < n → some (bare 4) ≡ tooMany [] (packagesAt lists at n)

@@ -10,8 +10,8 @@ ghost use mathlib.Core.Bool.{true};
 ghost use mathlib.Core.List.{[]};
 ghost use Prim.Native.Nat.{_+_, _^_, _≤_, _<_};
 ghost use lib.ListN.{length};
-ghost use Rattle.ray_tracing.specs.Submission.{first, _or_, mentionBlas, packageAt, pastPackage, packagesAt, packagesLent, buildAt, tooMany, mentionPackage, compacted, before, build};
-ghost use Rattle.submit_checks.specs.Outcome.{lentOf, tablesOf, blasesOf, checkedOf};
+ghost use Rattle.ray_tracing.specs.Submission.{first, _orElse_, mentionBlas, packageFrom, pastPackage, packagesAt, packagesLent, buildAt, tooMany, mentionPackage, compacted, before, build, lentOf};
+ghost use Rattle.submit_checks.specs.Outcome.{tablesOnly, blasesOf, causeOf};
 ghost use Rattle.submit_checks.specs.Known.{blasesIn, Inside};
 
 // Whether the lists of a Build's Tlases, from a cell on, are lent whole.
@@ -38,7 +38,7 @@ fn packages_lent(lists: &[u16], start: usize, tlas_count: usize) -> bool
 // 4, but for the Blases.
 fn judge_counts(lists: &[u16], start: usize, tlas_count: usize) -> Checked
     requires { ⌜ packagesLent (now lists) start «tlas_count» ≡ true ⌝ }
-    ensures { λ r. ⌜ checkedOf r ≡ tooMany [] (packagesAt (now (lists .entry)) start «tlas_count») ⌝ }
+    ensures { λ r. ⌜ causeOf r ≡ tooMany [] (packagesAt (now (lists .entry)) start «tlas_count») ⌝ }
 {
     if 32 < tlas_count {
         return Checked::Refused(ValidateAsActionsError::TooMany);
@@ -59,7 +59,7 @@ fn judge_counts(lists: &[u16], start: usize, tlas_count: usize) -> Checked
 // 6 of one Tlas and its list.
 fn judge_package(blases: &[u8], tlases: &[u8], lists: &[u16], at: usize) -> Checked
     requires { ⌜ pastPackage (now lists) at ≤ length (now lists) ⌝ }
-    ensures { λ r. ⌜ checkedOf r ≡ mentionPackage (tablesOf (now (blases .entry)) (now (tlases .entry))) (packageAt (now (lists .entry)) at) ⌝ }
+    ensures { λ r. ⌜ causeOf r ≡ mentionPackage (tablesOnly (now (blases .entry)) (now (tlases .entry))) (packageFrom (now (lists .entry)) at) ⌝ }
 {
     let checked = judge_tlas(tlases, lists[at] as usize);
     if let Checked::Refused(_) = checked {
@@ -78,7 +78,7 @@ fn judge_packages(
     tlas_count: usize,
 ) -> Checked
     requires { ⌜ packagesLent (now lists) start «tlas_count» ≡ true ⌝ }
-    ensures { λ r. ⌜ checkedOf r ≡ first (mentionPackage (tablesOf (now (blases .entry)) (now (tlases .entry)))) (packagesAt (now (lists .entry)) start «tlas_count») ⌝ }
+    ensures { λ r. ⌜ causeOf r ≡ first (mentionPackage (tablesOnly (now (blases .entry)) (now (tlases .entry)))) (packagesAt (now (lists .entry)) start «tlas_count») ⌝ }
 {
     let mut left = tlas_count;
     let mut at = start;
@@ -96,7 +96,7 @@ fn judge_packages(
 // 41.
 fn judge_compacted(blases: &[u8], ids: &[u16]) -> Checked
     requires { ⌜ Inside (now ids) (blasesIn (now blases)) ⌝ }
-    ensures { λ r. ⌜ checkedOf r ≡ first (compacted (blasesOf (now (blases .entry)))) (now (ids .entry)) ⌝ }
+    ensures { λ r. ⌜ causeOf r ≡ first (compacted (blasesOf (now (blases .entry)))) (now (ids .entry)) ⌝ }
 {
     let mut k = 0;
     while k < ids.len() {
@@ -120,7 +120,7 @@ fn judge_mentions(
     tlas_count: usize,
 ) -> Checked
     requires { ⌜ packagesLent (now lists) at «tlas_count» ≡ true ⌝ }
-    ensures { λ r. ⌜ checkedOf r ≡ (first (mentionBlas (blasesOf (now (blases .entry)))) (now (ids .entry)) or first (mentionPackage (tablesOf (now (blases .entry)) (now (tlases .entry)))) (packagesAt (now (lists .entry)) at «tlas_count»)) ⌝ }
+    ensures { λ r. ⌜ causeOf r ≡ (first (mentionBlas (blasesOf (now (blases .entry)))) (now (ids .entry)) orElse first (mentionPackage (tablesOnly (now (blases .entry)) (now (tlases .entry)))) (packagesAt (now (lists .entry)) at «tlas_count»)) ⌝ }
 {
     let checked = judge_ids(blases, ids);
     if let Checked::Refused(_) = checked {
@@ -140,7 +140,7 @@ fn judge_whole_build(
     tlas_count: usize,
 ) -> Checked
     requires { ⌜ packagesLent (now lists) at «tlas_count» ≡ true ⌝ }
-    ensures { λ r. ⌜ checkedOf r ≡ before (lentOf counter (now (blases .entry)) (now (tlases .entry)) [] []) (build (now (ids .entry)) (packagesAt (now (lists .entry)) at «tlas_count»)) ⌝ }
+    ensures { λ r. ⌜ causeOf r ≡ before (lentOf counter (now (blases .entry)) (now (tlases .entry)) [] []) (build (now (ids .entry)) (packagesAt (now (lists .entry)) at «tlas_count»)) ⌝ }
 {
     if 64 < ids.len() {
         return Checked::Refused(ValidateAsActionsError::TooMany);
@@ -170,7 +170,7 @@ pub fn judge_build(
     tlas_count: usize,
 ) -> Checked
     requires { ⌜ start + «blas_count» < 2 ^ 64 ⌝ }
-    ensures { λ r. ⌜ checkedOf r ≡ before (lentOf counter (now (blases .entry)) (now (tlases .entry)) [] []) (buildAt (now (lists .entry)) start «blas_count» «tlas_count») ⌝ }
+    ensures { λ r. ⌜ causeOf r ≡ before (lentOf counter (now (blases .entry)) (now (tlases .entry)) [] []) (buildAt (now (lists .entry)) start «blas_count» «tlas_count») ⌝ }
 {
     let mid = start + blas_count;
     if lists.len() < mid {

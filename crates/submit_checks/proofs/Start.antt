@@ -14,7 +14,7 @@ use Rattle.ray_tracing.specs.Submission.{Lent, mentionBlas, blasCount, tlasCoun
 use Rattle.ray_tracing.proofs.Reading.{or-fine, on-fine}
 use Rattle.ray_tracing.proofs.Firsts.{or-none, inside}
 use Rattle.ray_tracing.proofs.Sound.{sound}
-use Rattle.submit_checks.specs.Known.{Inside, Room}
+use Rattle.submit_checks.specs.Known.{Inside, ListRoom}
 
 -- ids that were judged stand in the table
 pub ids-inside : (l : Lent) (ids : List ℕ) → first (mentionBlas l) ids ≡ none → Inside ids (blasCount l)
@@ -29,12 +29,12 @@ pub few-records : (k : ℕ) (l : Layout) (w : ℕ) (t s : List ℕ) → reading.
 unfolding reading.judgeLent
 few-records k l w t s e =
     ltb-false (l .most) (length s / total (l .fields)) (on-fine (ltb (l .most) (length s / total (l .fields))) 4 0
-    (or-fine (reading.on (ltb (l .most) (length s / total (l .fields))) (reading.refused 4 0)) _ e .0))
+    (or-fine (reading.judgedWhen (ltb (l .most) (length s / total (l .fields))) (reading.refused 4 0)) _ e .0))
 
 pub record Ready (l : Lent) : Type 0 where
   pub few-blases : blasCount l ≤ 128
   pub few-tlases : tlasCount l ≤ 32
-  pub room : Room (tlasCount l) (l .dependencyCounts) (l .dependencies)
+  pub room : ListRoom (tlasCount l) (l .dependencyCounts) (l .dependencies)
   pub few : (t : ℕ) → t < tlasCount l → getD (l .dependencyCounts) t 0 ≤ mostDependencies
   pub inside : (t : ℕ) → t < tlasCount l → Inside (dependenciesOf l t) (blasCount l)
 

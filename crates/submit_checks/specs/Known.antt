@@ -21,8 +21,8 @@ abbrev pub Inside : List ℕ → ℕ → Type 0
 Inside ids n = (k : ℕ) → k < length ids → getD ids k 0 < n
 
 -- n Tlases have their counts and the room for their lists
-abbrev pub Room : ℕ → List ℕ → List ℕ → Type 0
-Room n c d = (n ≤ length c) × (n * mostDependencies ≤ length d)
+abbrev pub ListRoom : ℕ → List ℕ → List ℕ → Type 0
+ListRoom n c d = (n ≤ length c) × (n * mostDependencies ≤ length d)
 
 -- a Tlas of a Build and what it lists, in tables of nb Blases and nt Tlases
 pub record Listed (nb nt : ℕ) (p : Package) : Type 0 where

@@ -11,7 +11,7 @@ ghost use mathlib.Core.Path.{_≡_};
 ghost use mathlib.Core.List.{[]};
 ghost use Prim.Native.Nat.{_<_};
 ghost use Rattle.ray_tracing.specs.Submission.{blas, first, mentionBlas, mentionTlas};
-ghost use Rattle.submit_checks.specs.Outcome.{tablesOf, blasesOf, checkedOf, submittedOf};
+ghost use Rattle.submit_checks.specs.Outcome.{tablesOnly, blasesOf, causeOf, submittedOf};
 ghost use Rattle.submit_checks.specs.Known.{blasesIn};
 
 // What judging finds: nothing to refuse, or the first refusal.
@@ -22,7 +22,7 @@ pub enum Checked {
 
 // A mention of an id, judged.
 pub fn judge_blas(blases: &[u8], id: usize) -> Checked
-    ensures { λ r. ⌜ checkedOf r ≡ mentionBlas (blasesOf (now (blases .entry))) id ⌝ }
+    ensures { λ r. ⌜ causeOf r ≡ mentionBlas (blasesOf (now (blases .entry))) id ⌝ }
 {
     if let Mentioned::InvalidResource = blas_mention(blases, id) {
         return Checked::Refused(ValidateAsActionsError::InvalidResource);
@@ -31,7 +31,7 @@ pub fn judge_blas(blases: &[u8], id: usize) -> Checked
 }
 
 pub fn judge_tlas(tlases: &[u8], id: usize) -> Checked
-    ensures { λ r. ⌜ checkedOf r ≡ mentionTlas (tablesOf [] (now (tlases .entry))) id ⌝ }
+    ensures { λ r. ⌜ causeOf r ≡ mentionTlas (tablesOnly [] (now (tlases .entry))) id ⌝ }
 {
     if let Mentioned::InvalidResource = tlas_mention(tlases, id) {
         return Checked::Refused(ValidateAsActionsError::InvalidResource);
@@ -40,7 +40,7 @@ pub fn judge_tlas(tlases: &[u8], id: usize) -> Checked
 }
 
 pub fn judge_ids(blases: &[u8], ids: &[u16]) -> Checked
-    ensures { λ r. ⌜ checkedOf r ≡ first (mentionBlas (blasesOf (now (blases .entry)))) (now (ids .entry)) ⌝ }
+    ensures { λ r. ⌜ causeOf r ≡ first (mentionBlas (blasesOf (now (blases .entry)))) (now (ids .entry)) ⌝ }
 {
     let mut k = 0;
     while k < ids.len() {

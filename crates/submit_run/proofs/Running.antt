@@ -8,10 +8,9 @@ use Rattle.ray_tracing.specs.declared.Submitted.{Submitted}
 use Rattle.ray_tracing.specs.declared.Submitted.the-variants as submitted
 use Rattle.ray_tracing.specs.declared.ValidateAsActionsError.{ValidateAsActionsError}
 use Rattle.ray_tracing.specs.Causes.{bare}
-use Rattle.ray_tracing.specs.Submission.{Lent, Action, malformed, decodeCells, Outcome, accepted, refused, _leaving_, left, _then_, later, step, run, submission}
+use Rattle.ray_tracing.specs.Submission.{Lent, Action, malformed, decodeCells, Outcome, accepted, refused, _leaving_, left, _followedBy_, later, step, run, submission, outcomeOf, lentOf}
 use Rattle.ray_tracing.proofs.Firsts.{later-later, left-later}
 use Rattle.ray_tracing.proofs.Sound.{Sound, judged, sound-submission}
-use Rattle.submit_checks.specs.Outcome.{lentOf, outcomeOf}
 use Rattle.submit_checks.specs.declared.Checked.the-variants.{Refused}
 use Rattle.submit_step.proofs.ByKind.{malformed-step}
 
@@ -26,7 +25,7 @@ pub record Running (n₀ : ℕ) (b₀ t₀ c₀ d₀ actions lists : List ℕ) (
   pub same : later index (run (lentOf number b t c d) (decodeCells lists (drop at actions))) ≡ run (lentOf n₀ b₀ t₀ c₀ d₀) (decodeCells lists actions)
 
 -- what one action leaves
-left-one : (o : Outcome) → left (o then λ r. later 1 (accepted leaving r)) ≡ left o
+left-one : (o : Outcome) → left (o followedBy λ r. later 1 (accepted leaving r)) ≡ left o
 left-one (accepted leaving l) = refl
 left-one (refused i c leaving l) = refl
 
@@ -35,11 +34,11 @@ unfolding submission run
 sound-step l a h = rw left-one at (rw (judged l h) at (sound-submission l (a ∷ []) h))
 
 -- an action, then those after it
-run-step : (i : ℕ) (l : Lent) (a : Action) (more : List Action) → later i (run l (a ∷ more)) ≡ (later i (step l a) then λ r. later (i + 1) (run r more))
+run-step : (i : ℕ) (l : Lent) (a : Action) (more : List Action) → later i (run l (a ∷ more)) ≡ (later i (step l a) followedBy λ r. later (i + 1) (run r more))
 unfolding run
 run-step i l a more = go (step l a)
   where
-    go : (o : Outcome) → later i (o then λ r. later 1 (run r more)) ≡ (later i o then λ r. later (i + 1) (run r more))
+    go : (o : Outcome) → later i (o followedBy λ r. later 1 (run r more)) ≡ (later i o followedBy λ r. later (i + 1) (run r more))
     go (accepted leaving r) = later-later i 1 (run r more)
     go (refused k c leaving r) = refl
 

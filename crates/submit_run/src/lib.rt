@@ -5,8 +5,7 @@ use submit_step::step;
 ghost use mathlib.Core.Path.{_≡_};
 ghost use mathlib.Core.Option.{none};
 ghost use Rattle.ray_tracing.specs.Submission as Submission;
-ghost use Rattle.ray_tracing.specs.Submission.{judge, decodeCells};
-ghost use Rattle.submit_checks.specs.Outcome.{lentOf, outcomeOf};
+ghost use Rattle.ray_tracing.specs.Submission.{judge, decodeCells, outcomeOf, lentOf};
 
 // The actions in turn, to the first that is refused.
 pub fn run(

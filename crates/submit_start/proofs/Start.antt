@@ -10,7 +10,8 @@ use Rattle.ray_tracing.specs.declared.Judged as ray
 use Rattle.ray_tracing.specs.declared.Judged.the-variants as judged
 use Rattle.ray_tracing.specs.Layout.{Layout, total}
 use Rattle.ray_tracing.specs.Reading.{Judged, fine, refused, judgeLent}
-use Rattle.ray_tracing.specs.Causes.{Cause, bare, sheetNumber, judgedOf}
+use Rattle.ray_tracing.specs.Causes.{Cause, bare, sheetNumber}
+use Rattle.ray_tracing.specs.Code.{judgedOf}
 use Rattle.ray_tracing.specs.Submission.{tableCause}
 use Rattle.ray_tracing.proofs.Lent.{Only, only-above}
 use Rattle.submit_checks.proofs.Start.{few-records}

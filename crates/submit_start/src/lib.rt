@@ -13,9 +13,9 @@ ghost use lib.ListN.{length};
 ghost use Rattle.ray_tracing.specs.Layout.{layout, size};
 ghost use Rattle.ray_tracing.specs.Reading.{judgeLent};
 ghost use Rattle.ray_tracing.specs.Causes.{bare, sheetNumber, submissionCause};
-ghost use Rattle.ray_tracing.specs.Submission.{tableCause, judgeRoom, judgeList, judgeLists, judge};
-ghost use Rattle.submit_checks.specs.Outcome.{lentOf, checkedOf};
-ghost use Rattle.submit_checks.specs.Known.{tlasesIn, Room};
+ghost use Rattle.ray_tracing.specs.Submission.{tableCause, judgeRoom, judgeList, judgeLists, judge, lentOf};
+ghost use Rattle.submit_checks.specs.Outcome.{causeOf};
+ghost use Rattle.submit_checks.specs.Known.{tlasesIn, ListRoom};
 
 // The starting list of one Tlas: 4 goes by the count itself.
 fn judge_list(
@@ -25,7 +25,7 @@ fn judge_list(
     tlas: TlasId,
 ) -> Checked
     requires { ⌜ (tlas .0 < length (now «dependency_counts»)) × (tlas .0 * 512 + 512 ≤ length (now dependencies)) ⌝ }
-    ensures { λ r. ⌜ checkedOf r ≡ judgeList (lentOf 0 (now (blases .entry)) [] (now («dependency_counts» .entry)) (now (dependencies .entry))) (tlas .0) ⌝ }
+    ensures { λ r. ⌜ causeOf r ≡ judgeList (lentOf 0 (now (blases .entry)) [] (now («dependency_counts» .entry)) (now (dependencies .entry))) (tlas .0) ⌝ }
 {
     let t = tlas.0 as usize;
     let count = dependency_counts[t] as usize;
@@ -43,8 +43,8 @@ fn judge_lists(
     dependency_counts: &[u16],
     dependencies: &[u16],
 ) -> Checked
-    requires { ⌜ Room «tlas_count» (now «dependency_counts») (now dependencies) ⌝ }
-    ensures { λ r. ⌜ checkedOf r ≡ judgeLists (lentOf 0 (now (blases .entry)) [] (now («dependency_counts» .entry)) (now (dependencies .entry))) 0 «tlas_count» ⌝ }
+    requires { ⌜ ListRoom «tlas_count» (now «dependency_counts») (now dependencies) ⌝ }
+    ensures { λ r. ⌜ causeOf r ≡ judgeLists (lentOf 0 (now (blases .entry)) [] (now («dependency_counts» .entry)) (now (dependencies .entry))) 0 «tlas_count» ⌝ }
 {
     let mut t = 0;
     while t < tlas_count {
@@ -71,7 +71,7 @@ fn table_error(e: SheetError) -> ValidateAsActionsError
 // A table of the start, judged as in a build.
 fn judge_table(table: &[u8], section: usize) -> Checked
     requires { ⌜ (0 < section) × (section < 10) ⌝ }
-    ensures { λ r. ⌜ checkedOf r ≡ tableCause (judgeLent section (layout section) (size (section - 1)) [] (now (table .entry))) ⌝ }
+    ensures { λ r. ⌜ causeOf r ≡ tableCause (judgeLent section (layout section) (size (section - 1)) [] (now (table .entry))) ⌝ }
 {
     match judge_lent(table, section, &table[..0]) {
         Judged::Fine => Checked::Fine,
@@ -82,7 +82,7 @@ fn judge_table(table: &[u8], section: usize) -> Checked
 // 39 unless each Tlas's list has room for 512.
 fn judge_room(tlases: &[u8], dependency_counts: &[u16], dependencies: &[u16]) -> Checked
     requires { ⌜ tlasesIn (now tlases) ≤ 32 ⌝ }
-    ensures { λ r. ⌜ checkedOf r ≡ judgeRoom (lentOf 0 [] (now (tlases .entry)) (now («dependency_counts» .entry)) (now (dependencies .entry))) ⌝ }
+    ensures { λ r. ⌜ causeOf r ≡ judgeRoom (lentOf 0 [] (now (tlases .entry)) (now («dependency_counts» .entry)) (now (dependencies .entry))) ⌝ }
 {
     let tlas_count = tlases.len() / 22;
     if dependency_counts.len() < tlas_count {
@@ -101,7 +101,7 @@ pub fn judge_start(
     dependency_counts: &[u16],
     dependencies: &[u16],
 ) -> Checked
-    ensures { λ r. ⌜ ((n : ℕ) → checkedOf r ≡ judge (lentOf n (now (blases .entry)) (now (tlases .entry)) (now («dependency_counts» .entry)) (now (dependencies .entry)))) ⌝ }
+    ensures { λ r. ⌜ ((n : ℕ) → causeOf r ≡ judge (lentOf n (now (blases .entry)) (now (tlases .entry)) (now («dependency_counts» .entry)) (now (dependencies .entry)))) ⌝ }
 {
     let first = judge_table(blases, 2);
     if let Checked::Refused(_) = first {

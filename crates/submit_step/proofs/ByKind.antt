@@ -9,18 +9,18 @@ use Rattle.ray_tracing.specs.Causes.{bare}
 use Rattle.ray_tracing.specs.Submission.{Lent, Action, useTlas, markBlas, markTlas, malformed, buildAt, action, refused, _leaving_, later, mentionBlas, mentionTlas, before, step}
 use Rattle.submit_checks.specs.declared.Checked.{Checked}
 use Rattle.submit_checks.specs.declared.Checked.the-variants.{Refused}
-use Rattle.submit_checks.specs.Outcome.{checkedOf}
+use Rattle.submit_checks.specs.Outcome.{causeOf}
 use Rattle.submit_checks.proofs.Walks.{refusal}
 
 -- ---- a mark
 
-pub before-mark-blas : (l : Lent) (b : ℕ) {x : Checked} {e : ValidateAsActionsError} → checkedOf x ≡ mentionBlas l b → x ≡ Refused e → checkedOf x ≡ before l (markBlas b)
+pub before-mark-blas : (l : Lent) (b : ℕ) {x : Checked} {e : ValidateAsActionsError} → causeOf x ≡ mentionBlas l b → x ≡ Refused e → causeOf x ≡ before l (markBlas b)
 unfolding before
-before-mark-blas l b p q = ap checkedOf q ∙ rw (refusal p q)
+before-mark-blas l b p q = ap causeOf q ∙ rw (refusal p q)
 
-pub before-mark-tlas : (l : Lent) (t : ℕ) {x : Checked} {e : ValidateAsActionsError} → checkedOf x ≡ mentionTlas l t → x ≡ Refused e → checkedOf x ≡ before l (markTlas t)
+pub before-mark-tlas : (l : Lent) (t : ℕ) {x : Checked} {e : ValidateAsActionsError} → causeOf x ≡ mentionTlas l t → x ≡ Refused e → causeOf x ≡ before l (markTlas t)
 unfolding before
-before-mark-tlas l t p q = ap checkedOf q ∙ rw (refusal p q)
+before-mark-tlas l t p q = ap causeOf q ∙ rw (refusal p q)
 
 -- ---- an action by its kind
 

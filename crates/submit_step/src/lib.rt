@@ -10,8 +10,7 @@ use submit_use::use_action;
 ghost use mathlib.Core.Path.{_≡_};
 ghost use mathlib.Core.Option.{none};
 ghost use Rattle.ray_tracing.specs.Submission as Submission;
-ghost use Rattle.ray_tracing.specs.Submission.{judge, markBlas, markTlas, action, later};
-ghost use Rattle.submit_checks.specs.Outcome.{lentOf, outcomeOf};
+ghost use Rattle.ray_tracing.specs.Submission.{judge, markBlas, markTlas, action, later, outcomeOf, lentOf};
 
 // A mark is a Build whose Tlases list nothing: its lists stand in an array of its own.
 fn mark_blas_action(

@@ -14,13 +14,13 @@ ghost use mathlib.Core.Option.{none};
 ghost use Prim.Native.Nat.{_≤_, _<_};
 ghost use lib.ListN.{getD};
 ghost use Rattle.ray_tracing.specs.Submission as Submission;
-ghost use Rattle.ray_tracing.specs.Submission.{Lent, listIn, first, judge, later, unusableBlas, unusable, step, useTlas};
-ghost use Rattle.submit_checks.specs.Outcome.{lentOf, checkedOf, outcomeOf};
-ghost use Rattle.submit_checks.specs.Known.{blasesIn, tlasesIn, Inside, Room};
+ghost use Rattle.ray_tracing.specs.Submission.{Lent, listIn, first, judge, later, unusableBlas, unusable, step, useTlas, outcomeOf, lentOf};
+ghost use Rattle.submit_checks.specs.Outcome.{causeOf};
+ghost use Rattle.submit_checks.specs.Known.{blasesIn, tlasesIn, Inside, ListRoom};
 
 // One listed Blas of a use: 42, 44, 21.
 fn use_blas(blas: Blas, id: BlasId, own: u64, tlas: TlasId) -> Checked
-    ensures { λ r. ⌜ ((l : Lent) → Submission.blas l (id .0) ≡ blas → Submission.tlas l (tlas .0) .«built_index» ≡ own → checkedOf r ≡ unusableBlas l (tlas .0) (id .0)) ⌝ }
+    ensures { λ r. ⌜ ((l : Lent) → Submission.blas l (id .0) ≡ blas → Submission.tlas l (tlas .0) .«built_index» ≡ own → causeOf r ≡ unusableBlas l (tlas .0) (id .0)) ⌝ }
 {
     if blas.built_index == 0 {
         return Checked::Refused(ValidateAsActionsError::UsedTlasOfUnbuiltBlas(tlas, id));
@@ -36,7 +36,7 @@ fn use_blas(blas: Blas, id: BlasId, own: u64, tlas: TlasId) -> Checked
 
 fn use_list(blases: &[u8], own: u64, tlas: TlasId, ids: &[u16]) -> Checked
     requires { ⌜ Inside (now ids) (blasesIn (now blases)) ⌝ }
-    ensures { λ r. ⌜ ((l : Lent) → l .blases ≡ now (blases .entry) → Submission.tlas l (tlas .0) .«built_index» ≡ own → checkedOf r ≡ first (unusableBlas l (tlas .0)) (now (ids .entry))) ⌝ }
+    ensures { λ r. ⌜ ((l : Lent) → l .blases ≡ now (blases .entry) → Submission.tlas l (tlas .0) .«built_index» ≡ own → causeOf r ≡ first (unusableBlas l (tlas .0)) (now (ids .entry))) ⌝ }
 {
     let mut k = 0;
     while k < ids.len() {
@@ -59,9 +59,9 @@ fn use_tlas(
     tlas: TlasId,
 ) -> Checked
     requires { ⌜ tlas .0 < tlasesIn (now tlases) ⌝ }
-    requires { ⌜ Room (tlasesIn (now tlases)) (now «dependency_counts») (now dependencies) ⌝ }
+    requires { ⌜ ListRoom (tlasesIn (now tlases)) (now «dependency_counts») (now dependencies) ⌝ }
     requires { ⌜ (getD (now «dependency_counts») (tlas .0) 0 ≤ 512) × Inside (listIn (now «dependency_counts») (now dependencies) (tlas .0)) (blasesIn (now blases)) ⌝ }
-    ensures { λ r. ⌜ checkedOf r ≡ unusable (lentOf 0 (now (blases .entry)) (now (tlases .entry)) (now («dependency_counts» .entry)) (now (dependencies .entry))) (tlas .0) ⌝ }
+    ensures { λ r. ⌜ causeOf r ≡ unusable (lentOf 0 (now (blases .entry)) (now (tlases .entry)) (now («dependency_counts» .entry)) (now (dependencies .entry))) (tlas .0) ⌝ }
 {
     let t = tlas.0 as usize;
     let used = tlas_at(tlases, t * 22);

@@ -1,6 +1,6 @@
 -- `build::record_nothing` meets its contract: by the room.
 use borrow.Author.Needs.{needs}
-use Rattle.build_ranges.specs.Entries.{entriesIn}
+use Rattle.ray_tracing.specs.Parts.{entriesIn}
 use Rattle.build_ranges.specs.Ranges.{allRanges}
 use mathlib.Core.Path.{refl}
 use native.Mathlib.Omega.{arith}

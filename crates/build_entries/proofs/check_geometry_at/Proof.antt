@@ -1,6 +1,6 @@
 -- `build_entries::check_geometry_at` meets its contract: the rule over what is read is the rule over the tables.
 use mathlib.Core.Path.{_∙_}
-use Rattle.build_ids.specs.Lent.{forEntries}
+use Rattle.ray_tracing.specs.Parts.{forEntries}
 use Rattle.build_entries.proofs.Index.{nth-found}
 use Rattle.build_entries.proofs.Within.{buffers-inside, checked-at}
 use borrow.Author.Needs.{needs}

@@ -3,10 +3,11 @@ use mathlib.Core.Path.{_≡_, sym, ap, _∙_}
 use mathlib.Core.List.{[]}
 use Prim.Native.Nat.{_-_, _≤_}
 use native.Mathlib.Omega.{arith}
-use Rattle.ray_tracing.specs.Plan.{verdictOf, firstDrawing, geometryCount, judgeEntry}
+use Rattle.ray_tracing.specs.Plan.{firstDrawing, geometryCount, judgeEntry}
+use Rattle.ray_tracing.specs.Code.{verdictOf}
 use Rattle.ray_tracing.proofs.Verdicts.{from-start-drawing, ended-drawing, found-drawing, onward-drawing}
 use Rattle.ray_tracing.proofs.Inside.{drawnBefore, drawn-none, drawn-more}
-use Rattle.build_ids.specs.Lent.{forEntries}
+use Rattle.ray_tracing.specs.Parts.{forEntries}
 use borrow.Author.Needs.{needs}
 use Rattle.build_entries.proofs.judge_each.Statement.{statement}
 use Rattle.build_entries.proofs.judge_each.Tie as tie

@@ -3,9 +3,10 @@ use native.Mathlib.Omega.{arith}
 use mathlib.Core.Path.{_≡_, sym, ap, _∙_}
 use mathlib.Core.List.{[]}
 use Prim.Native.Nat.{_+_, _-_, _≤_}
-use Rattle.ray_tracing.specs.Plan.{verdictOf, firstOf, entryOf, checkedAt, checkedE}
+use Rattle.ray_tracing.specs.Plan.{firstOf, entryOf, checkedAt, checkedE}
+use Rattle.ray_tracing.specs.Code.{verdictOf}
 use Rattle.ray_tracing.proofs.Verdicts.{from-start, ended, found, onward}
-use Rattle.build_ids.specs.Lent.{forEntries}
+use Rattle.ray_tracing.specs.Parts.{forEntries}
 use Rattle.build_entries.specs.Index.{nthOf}
 use Rattle.build_entries.proofs.Index.{follow}
 use borrow.Author.Needs.{needs}

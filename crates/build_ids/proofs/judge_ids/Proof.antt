@@ -1,6 +1,7 @@
 -- `build_ids::judge_ids` meets its contract: the entries', and where they pass the packages'.
 use Rattle.build_ids.proofs.Laws.{or-first, or-second}
-use Rattle.ray_tracing.specs.Plan.{verdictOf, judgeIds}
+use Rattle.ray_tracing.specs.Plan.{judgeIds}
+use Rattle.ray_tracing.specs.Code.{verdictOf}
 use mathlib.Core.Path.{ap}
 use borrow.Author.Needs.{needs}
 use Rattle.build_ids.proofs.judge_ids.Statement.{statement}

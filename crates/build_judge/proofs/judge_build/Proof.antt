@@ -1,7 +1,7 @@
 -- `build_judge::judge_build` meets its contract: the ends of judging in turn.
 use mathlib.Core.Path.{sym, ap, _∙_}
-use Rattle.ray_tracing.specs.Plan.{verdictOf}
-use Rattle.ray_tracing.proofs.Inside.{tablesOf}
+use Rattle.ray_tracing.specs.Code.{verdictOf}
+use Rattle.ray_tracing.specs.Plan.{tablesOf}
 use Rattle.build_judge.proofs.Build.{records-inside, entries-named, packages-named, build-refused, build-nothing, build-to-record, build-last-refused}
 use borrow.Author.Needs.{needs}
 use Rattle.build_judge.proofs.judge_build.Statement.{statement}

@@ -1,7 +1,7 @@
 -- `build_judge::judge_records` meets its contract: where the tables pass their sums add up, and where the ids pass too all records lie inside.
 use mathlib.Core.Path.{sym, ap, _∙_}
-use Rattle.ray_tracing.specs.Plan.{verdictOf}
-use Rattle.ray_tracing.proofs.Inside.{tablesOf}
+use Rattle.ray_tracing.specs.Code.{verdictOf}
+use Rattle.ray_tracing.specs.Plan.{tablesOf}
 use Rattle.build_entries.proofs.Within.{entries-inside, indexable}
 use Rattle.build_judge.proofs.Build.{sums, judged-inside, packages-inside, tables-refused, ids-refused, records-judged}
 use borrow.Author.Needs.{needs}

@@ -1,6 +1,6 @@
 -- `build_packages::instance_verdict` meets its contract: a cause has a number above 0.
 use mathlib.Core.Path.{sym, ap, _∙_}
-use Rattle.ray_tracing.specs.Instances.{instanceCause}
+use Rattle.ray_tracing.specs.Code.{instanceCause}
 use Rattle.build_packages.proofs.Laws.{instance-none, instance-some}
 use borrow.Author.Needs.{needs}
 use Rattle.build_packages.proofs.instance_verdict.Statement.{statement}

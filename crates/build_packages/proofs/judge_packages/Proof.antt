@@ -3,10 +3,11 @@ use Rattle.build_packages.proofs.Laws.{slot-named}
 use mathlib.Core.Path.{_≡_, sym, ap, _∙_}
 use Prim.Native.Nat.{_+_, _-_, _≤_}
 use native.Mathlib.Omega.{arith}
-use Rattle.ray_tracing.specs.Plan.{verdictOf, firstDrawing, slotCount, judgePackage, judgePackages}
+use Rattle.ray_tracing.specs.Plan.{firstDrawing, slotCount, judgePackage, judgePackages}
+use Rattle.ray_tracing.specs.Code.{verdictOf}
 use Rattle.ray_tracing.proofs.Verdicts.{from-start-drawing, ended-drawing, found-drawing, onward-drawing}
 use Rattle.ray_tracing.proofs.Inside.{slotsBefore, slots-none, slots-more}
-use Rattle.build_ids.specs.Lent.{forPackages}
+use Rattle.ray_tracing.specs.Parts.{forPackages}
 use borrow.Author.Needs.{needs}
 use Rattle.build_packages.proofs.judge_packages.Statement.{statement}
 use Rattle.build_packages.proofs.judge_packages.Tie as tie

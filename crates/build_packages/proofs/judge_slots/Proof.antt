@@ -3,7 +3,8 @@ use mathlib.Core.Path.{_≡_, sym, ap, _∙_}
 use Prim.Native.Nat.{_+_, _-_, _*_, _≤_}
 use native.Mathlib.Omega.{arith}
 use Rattle.ray_tracing.specs.Instances.{slotRule}
-use Rattle.ray_tracing.specs.Plan.{verdictOf, atE, firstOf}
+use Rattle.ray_tracing.specs.Plan.{atE, firstOf}
+use Rattle.ray_tracing.specs.Code.{verdictOf}
 use Rattle.ray_tracing.proofs.Verdicts.{from-start, ended, found, onward}
 use borrow.Author.Needs.{needs}
 use Rattle.build_packages.proofs.judge_slots.Statement.{statement}

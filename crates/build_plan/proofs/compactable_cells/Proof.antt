@@ -1,7 +1,7 @@
 -- `build_plan::compactable_cells` meets its contract: one cell if the flag is set, else none.
 use mathlib.Core.Path.{sym, ap}
 use lib.ListN.{length}
-use Rattle.build_ranges.specs.Entries.{ofEntries}
+use Rattle.ray_tracing.specs.Parts.{ofEntries}
 use Rattle.build_plan.proofs.Laws.{compactable-some, compactable-not}
 use borrow.Author.Needs.{needs}
 use Rattle.build_plan.proofs.compactable_cells.Statement.{statement}

@@ -6,7 +6,7 @@ use Prim.Native.Nat.{ℕ, _+_, _-_, _≤_}
 use lib.ListN.{length}
 use Rattle.build_ranges.proofs.Appending.{counted}
 use Rattle.ray_tracing.specs.Plan.{compactableFrom}
-use Rattle.build_ranges.specs.Entries.{ofEntries, entriesIn}
+use Rattle.ray_tracing.specs.Parts.{entriesIn, ofEntries}
 use Rattle.build_plan.proofs.Laws.{compactable-more, compactable-none}
 use borrow.Author.Needs.{needs}
 use Rattle.build_plan.proofs.count_compactable.Statement.{statement}

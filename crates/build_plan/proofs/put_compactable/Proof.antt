@@ -1,5 +1,5 @@
 -- `build_plan::put_compactable` meets its contract: one cell if the flag is set, else none.
-use Rattle.build_ranges.specs.Entries.{ofEntries}
+use Rattle.ray_tracing.specs.Parts.{ofEntries}
 use native.Mathlib.Omega.{arith}
 use mathlib.Core.Path.{sym, ap, _∙_}
 use lib.ListN.{length, set}

@@ -4,7 +4,7 @@ use mathlib.Core.Path.{ap, _∙_}
 use mathlib.Core.List.{[]}
 use lib.ListN.{length, length-set}
 use lib.Seq.{length-sets}
-use Rattle.build_plan.specs.Parts.{ofPackages}
+use Rattle.ray_tracing.specs.Parts.{ofPackages}
 use Rattle.build_plan.proofs.Laws.{package-stored}
 use borrow.Author.Needs.{needs}
 use Rattle.build_plan.proofs.put_package.Statement.{statement}

@@ -8,7 +8,7 @@ use lib.ListN.{length}
 use lib.Seq.{sets}
 use Rattle.ray_tracing.specs.Plan.{blasScratch, offsetsFrom}
 use Rattle.ray_tracing.proofs.Plan.{offset-step, offset-done}
-use Rattle.build_ranges.specs.Entries.{ofEntries, entriesIn}
+use Rattle.ray_tracing.specs.Parts.{entriesIn, ofEntries}
 use borrow.Author.Needs.{needs}
 use Rattle.build_plan.proofs.write_blas_offsets.Statement.{statement}
 use Rattle.build_plan.proofs.write_blas_offsets.Tie as tie

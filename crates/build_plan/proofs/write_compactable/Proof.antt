@@ -3,7 +3,7 @@ use native.Mathlib.Nat.{zero-add, sub-zero}
 use Prim.Native.Nat.{_-_}
 use Rattle.build_ranges.proofs.Appending.{Left, starts, room, turn, done}
 use Rattle.ray_tracing.specs.Plan.{compactableFrom}
-use Rattle.build_ranges.specs.Entries.{ofEntries, entriesIn}
+use Rattle.ray_tracing.specs.Parts.{entriesIn, ofEntries}
 use Rattle.build_plan.proofs.Laws.{compactable-more, compactable-none}
 use borrow.Author.Needs.{needs}
 use Rattle.build_plan.proofs.write_compactable.Statement.{statement}

@@ -7,7 +7,7 @@ use mathlib.Core.List.{[]}
 use Prim.Native.Nat.{_-_}
 use Rattle.build_ranges.proofs.Appending.{Left, starts, turn, done}
 use Rattle.ray_tracing.specs.Plan.{entryBlases}
-use Rattle.build_ranges.specs.Entries.{ofEntries, entriesIn}
+use Rattle.ray_tracing.specs.Parts.{entriesIn, ofEntries}
 use Rattle.build_plan.proofs.Laws.{blases-more, blases-none}
 use borrow.Author.Needs.{needs}
 use Rattle.build_plan.proofs.write_entry_blases.Statement.{statement}

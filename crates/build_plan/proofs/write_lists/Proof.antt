@@ -2,8 +2,7 @@
 use borrow.Author.Needs.{needs}
 use mathlib.Core.List.{[]}
 use Rattle.ray_tracing.specs.Plan.{entryBlases, packageLists}
-use Rattle.build_ranges.specs.Entries.{ofEntries, entriesIn}
-use Rattle.build_plan.specs.Parts.{ofPackages, packagesIn}
+use Rattle.ray_tracing.specs.Parts.{entriesIn, ofEntries, packagesIn, ofPackages}
 use Rattle.build_ranges.proofs.Appending.{both-written}
 use Rattle.ray_tracing.proofs.Plan.{blases-length}
 use Rattle.build_plan.proofs.write_lists.Statement.{statement}

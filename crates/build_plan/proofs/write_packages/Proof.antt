@@ -7,7 +7,7 @@ use Prim.Native.Nat.{_-_}
 use Rattle.build_ranges.proofs.Appending.{Left, starts, room, turn, done}
 use Rattle.ray_tracing.specs.Plan.{packageLists}
 use Rattle.ray_tracing.proofs.Inside.{slotsBefore, slots-none, slots-more}
-use Rattle.build_plan.specs.Parts.{ofPackages, packagesIn}
+use Rattle.ray_tracing.specs.Parts.{packagesIn, ofPackages}
 use Rattle.build_plan.proofs.Laws.{packages-more, packages-none}
 use borrow.Author.Needs.{needs}
 use Rattle.build_plan.proofs.write_packages.Statement.{statement}

@@ -8,7 +8,7 @@ use lib.ListN.{length-set}
 use Rattle.build_ranges.proofs.Appending.{Left, starts, turn, done}
 use Rattle.ray_tracing.specs.Plan.{stagingFrom}
 use Rattle.ray_tracing.proofs.Inside.{slotsBefore, slots-none, slots-more}
-use Rattle.build_plan.specs.Parts.{ofPackages, packagesIn}
+use Rattle.ray_tracing.specs.Parts.{packagesIn, ofPackages}
 use Rattle.build_plan.proofs.Laws.{staging-more, staging-none, pair-stored}
 use borrow.Author.Needs.{needs}
 use Rattle.build_plan.proofs.write_staging_ranges.Statement.{statement}

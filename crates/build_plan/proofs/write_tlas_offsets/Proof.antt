@@ -9,7 +9,7 @@ use lib.ListN.{length}
 use lib.Seq.{sets}
 use Rattle.ray_tracing.specs.Plan.{tlasScratch, offsetsFrom}
 use Rattle.ray_tracing.proofs.Plan.{offset-step, offset-done}
-use Rattle.build_plan.specs.Parts.{ofPackages, packagesIn}
+use Rattle.ray_tracing.specs.Parts.{packagesIn, ofPackages}
 use borrow.Author.Needs.{needs}
 use Rattle.build_plan.proofs.write_tlas_offsets.Statement.{statement}
 use Rattle.build_plan.proofs.write_tlas_offsets.Tie as tie

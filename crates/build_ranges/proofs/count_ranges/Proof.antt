@@ -7,7 +7,7 @@ use Prim.Native.Nat.{ℕ, _+_, _-_, _*_, _≤_}
 use lib.ListN.{length}
 use Rattle.build_ranges.proofs.Appending.{counted}
 use Rattle.ray_tracing.proofs.Inside.{drawnBefore, drawn-none}
-use Rattle.build_ranges.specs.Entries.{ofEntries, entriesIn}
+use Rattle.ray_tracing.specs.Parts.{entriesIn, ofEntries}
 use Rattle.build_ranges.specs.Ranges.{allRanges}
 use Rattle.build_ranges.proofs.Ranges.{all-more, all-none, entry-drawn, entry-next}
 use borrow.Author.Needs.{needs}

@@ -4,7 +4,7 @@ use mathlib.Core.Path.{sym, ap, _∙_}
 use lib.ListN.{length}
 use lib.Seq.{sets}
 use Rattle.ray_tracing.specs.declared.Asked.{Asked}
-use Rattle.ray_tracing.specs.Checks.{askedOf}
+use Rattle.ray_tracing.specs.Code.{askedOf}
 use borrow.Author.Needs.{needs}
 use Rattle.build_ranges.proofs.put_asked.Statement.{statement}
 use Rattle.build_ranges.proofs.put_asked.Tie as tie

@@ -6,7 +6,7 @@ use mathlib.Core.List.{[]}
 use Prim.Native.Nat.{_-_}
 use Rattle.build_ranges.proofs.Appending.{Left, starts, room, turn, done}
 use Rattle.ray_tracing.proofs.Inside.{drawnBefore, drawn-none}
-use Rattle.build_ranges.specs.Entries.{ofEntries, entriesIn}
+use Rattle.ray_tracing.specs.Parts.{entriesIn, ofEntries}
 use Rattle.build_ranges.specs.Ranges.{allRanges}
 use Rattle.build_ranges.proofs.Ranges.{all-more, all-none, entry-drawn, entry-next}
 use borrow.Author.Needs.{needs}

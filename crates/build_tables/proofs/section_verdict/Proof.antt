@@ -1,6 +1,6 @@
 -- `build_tables::section_verdict` meets its contract: each case in turn.
 use mathlib.Core.Path.{ap, subst}
-use Rattle.ray_tracing.specs.Causes.{judgedOf}
+use Rattle.ray_tracing.specs.Code.{judgedOf}
 use Rattle.ray_tracing.specs.Plan.{refused}
 use Rattle.ray_tracing.proofs.Lent.{Only, only-above}
 use borrow.Author.Needs.{needs}

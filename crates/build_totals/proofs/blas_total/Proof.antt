@@ -5,7 +5,7 @@ use Prim.Native.Nat.{_-_, _≤_}
 use Rattle.scratch.specs.Scratch.{addRounded}
 use Rattle.ray_tracing.specs.declared.Blas.{Blas}
 use Rattle.ray_tracing.specs.Plan.{totalFrom, blasScratch}
-use Rattle.build_ids.specs.Lent.{forEntries}
+use Rattle.ray_tracing.specs.Parts.{forEntries}
 use Rattle.build_totals.proofs.Laws.{total-start, total-turn, total-done}
 use borrow.Author.Needs.{needs}
 use Rattle.build_totals.proofs.blas_total.Statement.{statement}

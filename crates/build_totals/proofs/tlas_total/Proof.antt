@@ -5,7 +5,7 @@ use Prim.Native.Nat.{_-_, _≤_}
 use Rattle.scratch.specs.Scratch.{addRounded}
 use Rattle.ray_tracing.specs.declared.Tlas.{Tlas}
 use Rattle.ray_tracing.specs.Plan.{totalFrom, tlasScratch}
-use Rattle.build_ids.specs.Lent.{forPackages}
+use Rattle.ray_tracing.specs.Parts.{forPackages}
 use Rattle.build_totals.proofs.Laws.{total-start, total-turn, total-done}
 use borrow.Author.Needs.{needs}
 use Rattle.build_totals.proofs.tlas_total.Statement.{statement}

@@ -1,5 +1,5 @@
 -- `report_submit::put_action` meets its contract: passed over, the recorded build, or another.
-use Rattle.report_submit.specs.Parts.{listing}
+use Rattle.ray_tracing.specs.Parts.{listing}
 use Rattle.report_submit.proofs.Laws.{put-none, put-recorded, put-other}
 use borrow.Author.Needs.{needs}
 use Rattle.report_submit.proofs.put_action.Statement.{statement}

@@ -5,7 +5,7 @@ use native.Mathlib.Omega.{arith}
 use lib.ListN.{length}
 use Rattle.report_text.proofs.Laws.{Left, left-all, left-less, left-none, put-same-length}
 use Rattle.ray_tracing.specs.Report.{actionCells}
-use Rattle.report_submit.specs.Parts.{listing}
+use Rattle.ray_tracing.specs.Parts.{listing}
 use Rattle.report_submit.proofs.Laws.{kept-most, cells-more, cells-none}
 use borrow.Author.Needs.{needs}
 use Rattle.report_submit.proofs.put_actions.Statement.{statement}

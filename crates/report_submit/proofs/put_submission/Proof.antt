@@ -5,7 +5,8 @@ use lib.ListN.{length}
 use native.Mathlib.Omega.{arith}
 use Rattle.report_text.proofs.Laws.{put-within, put-taken}
 use Rattle.ray_tracing.specs.Report.{actionCells}
-use Rattle.report_submit.specs.Parts.{actionsIn, listing}
+use Rattle.report_submit.specs.Parts.{actionsIn}
+use Rattle.ray_tracing.specs.Parts.{listing}
 use Rattle.report_submit.proofs.Laws.{cells-fit, count-is, zeros, lines-are, refusal-is}
 use borrow.Author.Needs.{needs}
 use Rattle.report_submit.proofs.put_submission.Statement.{statement}

@@ -6,7 +6,7 @@ use lib.ListN.{length}
 use borrow.Author.Needs.{needs}
 use Rattle.ray_tracing.specs.Layout.{layout}
 use Rattle.ray_tracing.specs.Reading.{fine, begin, judgeFields, judgeRecords}
-use Rattle.ray_tracing.specs.Causes.{judgedOf}
+use Rattle.ray_tracing.specs.Code.{judgedOf}
 use Rattle.ray_tracing.proofs.Reading.{fields-whole, record-fine, record-refused}
 use Rattle.sheet_fields.proofs.judge_records.Statement.{statement}
 use Rattle.sheet_fields.proofs.judge_records.Tie as tie

@@ -5,8 +5,8 @@ use mathlib.Core.Path.{_≡_, refl, sym, ap, _∙_}
 use lib.ListN.{length}
 use borrow.Author.Needs.{needs}
 use Rattle.ray_tracing.specs.Layout.{layout, size}
-use Rattle.ray_tracing.specs.Reading.{fine, begin, ofBoxes, geometryCount, judgeRecords, judgeDrawn}
-use Rattle.ray_tracing.specs.Causes.{judgedOf}
+use Rattle.ray_tracing.specs.Reading.{fine, begin, ofBoxes, drawnCount, judgeRecords, judgeDrawn}
+use Rattle.ray_tracing.specs.Code.{judgedOf}
 use Rattle.ray_tracing.proofs.Reading.{records-whole, drawn-fine, drawn-refused}
 use Rattle.sheet_sections.proofs.judge_drawn.Statement.{statement}
 use Rattle.sheet_sections.proofs.judge_drawn.Tie as tie
@@ -32,7 +32,7 @@ judged :
     (layout 6 .fields)
     (d .before .before .before .before .before .before .before .before .before .args .s .now)
     (d .before .before .before .before .loop .p)
-    (geometryCount (d .before .before .before .before .before .before .before .before .before .args .entries .now) (d .before .before .before .before .loop .q))
+    (drawnCount (d .before .before .before .before .before .before .before .before .before .args .entries .now) (d .before .before .before .before .loop .q))
 judged d = d .judge-records .ensures ∙ rw (d .before .before .before .before .before .before .size-of .ensures, d .before .before .u8-at .ensures, d .before .u16-at .ensures)
 
 module _ (c : tie.After-enum-told Inv-loop μ-loop) where
@@ -42,7 +42,7 @@ module _ (c : tie.After-enum-told Inv-loop μ-loop) where
       (layout 6 .fields)
       (c .before .before .before .before .before .before .before .before .before .before .before .args .s .now)
       (c .before .before .before .before .before .before .loop .p)
-      (geometryCount (c .before .before .before .before .before .before .before .before .before .before .before .args .entries .now) (c .before .before .before .before .before .before .loop .q))
+      (drawnCount (c .before .before .before .before .before .before .before .before .before .before .before .args .entries .now) (c .before .before .before .before .before .before .loop .q))
       ≡ fine
   accepted = sym (judged (c .before .before)) ∙ ap judgedOf (c .enum-told .given .1)
 

@@ -1,7 +1,7 @@
 -- `submit::submit` meets its contract: each return is the definition's own case. Assumes nothing.
 use Rattle.submit_checks.proofs.Walks.{nothing}
 use Rattle.submit.proofs.Told.{submission-refused, submission-runs}
-use Rattle.submit_checks.specs.Outcome.{lentOf}
+use Rattle.ray_tracing.specs.Submission.{lentOf}
 use borrow.Author.Needs.{needs}
 use Rattle.submit.proofs.submit.Statement.{statement}
 use Rattle.submit.proofs.submit.Tie as tie

@@ -1,7 +1,7 @@
 -- `submit_build::build` meets its contract: each return is the definition's own case. Assumes nothing.
 use mathlib.Core.List.{[]}
 use Rattle.submit_build.proofs.Steps.{WholeBuild, whole-build, build-acts}
-use Rattle.submit_checks.specs.Outcome.{lentOf}
+use Rattle.ray_tracing.specs.Submission.{lentOf}
 use Rattle.submit_checks.specs.Known.{blasesIn, tlasesIn}
 use native.Mathlib.Nat.{add-sub-cancel-left}
 use native.Mathlib.Omega.{arith}

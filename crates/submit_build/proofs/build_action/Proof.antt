@@ -2,8 +2,7 @@
 use Rattle.submit_checks.proofs.Walks.{nothing}
 use Rattle.submit_checks.proofs.Steps.{step-refused, step-acted, before-tables}
 use Rattle.submit_checks.proofs.Start.{ready}
-use Rattle.submit_checks.specs.Outcome.{lentOf}
-use Rattle.ray_tracing.specs.Submission.{buildAt}
+use Rattle.ray_tracing.specs.Submission.{lentOf, buildAt}
 use mathlib.Core.Path.{_∙_, sym}
 use borrow.Author.Needs.{needs}
 use Rattle.submit_build.proofs.build_action.Statement.{statement}

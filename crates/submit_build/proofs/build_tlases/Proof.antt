@@ -2,7 +2,8 @@
 use Rattle.submit_build_checks.proofs.Packages.{packages-step, packages-done}
 use Rattle.submit_build.proofs.Acting.{tlases-stop, tlases-go-on, tlases-done}
 use Rattle.submit_build.proofs.Turns.{Going, Turn, turn, listed-part}
-use Rattle.submit_checks.specs.Outcome.{lentOf, stepped}
+use Rattle.submit_checks.specs.Outcome.{stepped}
+use Rattle.ray_tracing.specs.Submission.{lentOf}
 use Rattle.submit_checks.specs.Known.{blasesIn, tlasesIn}
 use native.Mathlib.Nat.{add-sub-cancel-left}
 use native.Mathlib.Omega.{arith}

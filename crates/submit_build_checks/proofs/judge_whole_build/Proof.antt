@@ -1,7 +1,6 @@
 -- `submit_build_checks::judge_whole_build` meets its contract: each return is the definition's own case. Assumes nothing.
-use Rattle.ray_tracing.specs.Submission.{packagesAt}
+use Rattle.ray_tracing.specs.Submission.{packagesAt, lentOf}
 use Rattle.submit_build_checks.proofs.Judging.{many-blases, refused-4, refused-6, known-ids, refused-40, judged-41}
-use Rattle.submit_checks.specs.Outcome.{lentOf}
 use mathlib.Core.List.{[]}
 use borrow.Author.Needs.{needs}
 use Rattle.submit_build_checks.proofs.judge_whole_build.Statement.{statement}

@@ -1,6 +1,6 @@
 -- `submit_run::run` meets its contract: the invariant says that what is left to do, done from here, is what the whole was to be. Assumes nothing.
 use Rattle.submit_run.proofs.Running.{Running, run-stop, run-go-on, run-sound, run-part, run-done}
-use Rattle.submit_checks.specs.Outcome.{lentOf}
+use Rattle.ray_tracing.specs.Submission.{lentOf}
 use Rattle.ray_tracing.proofs.Sound.{sound, judged}
 use Rattle.ray_tracing.proofs.Firsts.{later-zero}
 use Rattle.ray_tracing.proofs.Decode.{decode-step, decode-part, decode-done}

@@ -1,8 +1,7 @@
 -- `submit_start::judge_lists` meets its contract: the invariant says that what is left to do, done from here, is what the whole was to be. Assumes nothing.
 use native.Mathlib.Nat.{sub-zero}
 use Rattle.submit_start.proofs.Lists.{lists-stop, lists-go-on, lists-done}
-use Rattle.submit_checks.specs.Outcome.{lentOf}
-use Rattle.ray_tracing.specs.Submission.{judgeLists}
+use Rattle.ray_tracing.specs.Submission.{lentOf, judgeLists}
 use mathlib.Core.List.{[]}
 use Prim.Native.Nat.{_≤_, _-_}
 use mathlib.Core.Path.{_≡_, sym, _∙_}

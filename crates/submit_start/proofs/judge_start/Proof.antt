@@ -3,9 +3,8 @@ use Rattle.submit_checks.proofs.Walks.{nothing, or-stop, or-pass}
 use Rattle.submit_start.proofs.Lists.{lists-look}
 use Rattle.submit_start.proofs.Start.{few-of-table}
 use Rattle.submit_start.proofs.Lists.{room-known}
-use Rattle.submit_checks.specs.Outcome.{lentOf}
+use Rattle.ray_tracing.specs.Submission.{lentOf, judge}
 use Rattle.ray_tracing.specs.Layout.{layout, size}
-use Rattle.ray_tracing.specs.Submission.{judge}
 use mathlib.Core.List.{[]}
 use mathlib.Core.Path.{_∙_}
 use native.Mathlib.Omega.{arith}

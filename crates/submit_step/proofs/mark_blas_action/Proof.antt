@@ -1,12 +1,10 @@
 -- `submit_step::mark_blas_action` meets its contract: each return is the definition's own case. Assumes nothing.
-use Rattle.ray_tracing.specs.Submission.{packagesAt, packagesLent}
+use Rattle.ray_tracing.specs.Submission.{packagesAt, packagesLent, lentOf, markBlas}
 use Rattle.submit_checks.proofs.Walks.{nothing}
 use Rattle.submit_checks.proofs.Steps.{step-refused}
 use Rattle.submit_step.proofs.ByKind.{before-mark-blas}
 use Rattle.submit_checks.proofs.Start.{ready}
-use Rattle.submit_checks.specs.Outcome.{lentOf}
 use Rattle.submit_checks.specs.Known.{blasesIn}
-use Rattle.ray_tracing.specs.Submission.{markBlas}
 use Rattle.ray_tracing.proofs.Firsts.{inside}
 use native.Mathlib.Omega.{arith}
 use borrow.Author.Needs.{needs}

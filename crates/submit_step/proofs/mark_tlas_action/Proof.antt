@@ -1,12 +1,10 @@
 -- `submit_step::mark_tlas_action` meets its contract: each return is the definition's own case. Assumes nothing.
-use Rattle.ray_tracing.specs.Submission.{packagesAt, packagesLent}
+use Rattle.ray_tracing.specs.Submission.{packagesAt, packagesLent, lentOf, markTlas}
 use Rattle.submit_checks.proofs.Walks.{nothing}
 use Rattle.submit_checks.proofs.Steps.{step-refused}
 use Rattle.submit_step.proofs.ByKind.{before-mark-tlas}
 use Rattle.submit_checks.proofs.Start.{ready}
-use Rattle.submit_checks.specs.Outcome.{lentOf}
 use Rattle.submit_checks.specs.Known.{tlasesIn}
-use Rattle.ray_tracing.specs.Submission.{markTlas}
 use Rattle.ray_tracing.proofs.Firsts.{inside}
 use native.Mathlib.Omega.{arith}
 use borrow.Author.Needs.{needs}

@@ -4,8 +4,7 @@ use Rattle.submit_checks.proofs.Walks.{nothing}
 use Rattle.submit_checks.proofs.Steps.{step-refused, step-acted}
 use Rattle.submit_use.proofs.Laws.{before-use, use-acts}
 use Rattle.submit_checks.proofs.Start.{Ready, ready}
-use Rattle.submit_checks.specs.Outcome.{lentOf}
-use Rattle.ray_tracing.specs.Submission.{useTlas}
+use Rattle.ray_tracing.specs.Submission.{lentOf, useTlas}
 use Rattle.ray_tracing.proofs.Firsts.{inside}
 use mathlib.Core.Path.{_∙_, sym}
 use native.Mathlib.Omega.{arith}

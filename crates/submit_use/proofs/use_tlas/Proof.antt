@@ -1,7 +1,6 @@
 -- `submit_use::use_tlas` meets its contract: each return is the definition's own case. Assumes nothing.
 use Rattle.submit_use.proofs.Laws.{tlas-number, unnumbered-use, numbered-use}
-use Rattle.submit_checks.specs.Outcome.{lentOf}
-use Rattle.ray_tracing.specs.Submission.{listIn}
+use Rattle.ray_tracing.specs.Submission.{lentOf, listIn}
 use mathlib.Core.Path.{refl, _∙_, sym}
 use native.Mathlib.Nat.{add-sub-cancel-left}
 use borrow.Author.Needs.{needs}

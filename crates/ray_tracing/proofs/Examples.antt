@@ -1,4 +1,4 @@
--- "Eight proved examples": "All eight are one list, shown by one claim about the written rules." Assumes nothing.
+-- "Eight proved examples": "All eight are one list, shown by one claim about the written rules."
 use Prim.Native.Nat.{ℕ, zero, suc, _-_, _^_}
 use mathlib.Core.Path.{_≡_, refl}
 use mathlib.Core.Option.{none}
@@ -7,22 +7,19 @@ use lib.ListN.{length, getD, replicate}
 use Rattle.wire.specs.Wire.{leAt, leBytes}
 use Rattle.ray_tracing.specs.Guard.{refuse}
 use Rattle.ray_tracing.specs.Layout.{Field, layout}
-use Rattle.ray_tracing.specs.Reading.{judgeFields, judgeRecords, judgeDrawn, sumOfCounts, judgeLent}
+use Rattle.ray_tracing.specs.Reading.{judgeFields, judgeRecords, judgeDrawn, sumOfCounts, judgeLent, past, from, judgeSection, judgeSections, judgeSheet, readSheet}
 use Rattle.ray_tracing.specs.Causes.{Cause, cause, bare}
 use Rattle.ray_tracing.specs.Instances.{presentOf, slotsBytes, slotBytes, instanceBytes, instanceFrom, words, patterns, wordsAt}
-use Rattle.ray_tracing.specs.Plan.{Tables, Answer, recorded, not-built, planOf, build}
-use Rattle.ray_tracing.specs.Plan.{firstOf, firstDrawing, declaredFrom, judgeTables, judgeIds, judgeEntries, judgePackages, totalFrom, offsetsFrom, scratchSize, judgeFinal, stagingFrom, rangesOfEntry, rangesFrom, compactableFrom, entryBlases, dependenciesFrom, packageLists}
-use Rattle.ray_tracing.specs.Submission.{Lent, Piece, Outcome, accepted, refused, _leaving_, decode, submission}
-use Rattle.ray_tracing.specs.Submission.{blasIn, tlasIn, listIn, judge, judgeLists, packagesAt, packagesLent, action, decodeCells, before, builtBlas, builtBlases, builtTlas, buildTlases, act, step, run}
-use Rattle.ray_tracing.specs.DemandExamples.{lent, piece, lists-7, first-7, second-7}
-use Rattle.ray_tracing.specs.Reading.{past, from, judgeSection, judgeSections, judgeSheet, readSheet}
+use Rattle.ray_tracing.specs.Plan.{Tables, Building, recorded, not-built, planOf, build, firstOf, firstDrawing, declaredFrom, judgeTables, judgeIds, judgeEntries, judgePackages, totalFrom, offsetsFrom, scratchSize, judgeFinal, stagingFrom, rangesOfEntry, rangesFrom, compactableFrom, entryBlases, dependenciesFrom, packageLists}
+use Rattle.ray_tracing.specs.Submission.{Lent, Piece, Outcome, accepted, refused, _leaving_, decode, submission, blasIn, tlasIn, listIn, judge, judgeLists, packagesAt, packagesLent, action, decodeCells, before, builtBlas, builtBlases, builtTlas, buildTlases, act, step, run}
+use Rattle.ray_tracing.proofs.DemandExamples.{lent, piece, lists-7, first-7, second-7}
 use Rattle.ray_tracing.specs.Writing.{sectionBytes, sheetBytes}
-use Rattle.ray_tracing.specs.Report.{digits, spaced, line, blasLines, tlasLines, actionCells, positions, submitLines, builtLines, report}
+use Rattle.ray_tracing.specs.Report.{ascii, digits, spaced, line, blasLines, tlasLines, actionCells, positions, submitLines, builtLines, report}
 
 -- a whole input with its whole answer: of a build, the tables with room for what it writes, the answer, and the offsets of the Blases
 -- and of the Tlases; of a submission, what is lent, its piece, and the outcome
 pub data Case : Type 0 where
-  building : Tables → Answer → List ℕ → List ℕ → Case
+  building : Tables → Building → List ℕ → List ℕ → Case
   submitting : Lent → Piece → Outcome → Case
 
 abbrev pub Holds : Case → Type 0
@@ -107,7 +104,7 @@ example-6 =
     tables [] (blas 0 0 300 ++ blas 0 0 10) [] (of 4 (0 ∷ 0 ∷ 1000 ∷ 0 ∷ 0 ∷ [])) (entry 0 0 0 ++ entry 1 0 0) [] (of 7 (0 ∷ 0 ∷ [])) []
 
 -- recorded, with a size and how many offsets, staging cells, instance bytes, range cells, compactable Blases and list cells
-abbrev pub plan : ℕ → ℕ → ℕ → ℕ → ℕ → ℕ → ℕ → ℕ → Answer
+abbrev pub plan : ℕ → ℕ → ℕ → ℕ → ℕ → ℕ → ℕ → ℕ → Building
 plan size blases tlases staging instances ranges compactable lists =
     recorded size
     (record {
@@ -200,13 +197,7 @@ workedTables k =
     []
 
 abbrev pub workedText : List ℕ
-workedText =
-    98 ∷ 117 ∷ 105 ∷ 108 ∷ 100 ∷ 32 ∷ 48 ∷ 32 ∷ 48 ∷ 32 ∷ 48 ∷ 32 ∷ 48 ∷ 32 ∷ 48 ∷ 32 ∷ 48 ∷ 10
-    ∷ 115 ∷ 99 ∷ 114 ∷ 97 ∷ 116 ∷ 99 ∷ 104 ∷ 32 ∷ 53 ∷ 49 ∷ 50 ∷ 10
-    ∷ 98 ∷ 108 ∷ 97 ∷ 115 ∷ 32 ∷ 48 ∷ 32 ∷ 48 ∷ 10
-    ∷ 116 ∷ 108 ∷ 97 ∷ 115 ∷ 32 ∷ 48 ∷ 32 ∷ 48 ∷ 32 ∷ 48 ∷ 32 ∷ 54 ∷ 52 ∷ 10
-    ∷ 115 ∷ 117 ∷ 98 ∷ 109 ∷ 105 ∷ 116 ∷ 32 ∷ 48 ∷ 32 ∷ 48 ∷ 32 ∷ 48 ∷ 32 ∷ 48 ∷ 10
-    ∷ 110 ∷ 101 ∷ 120 ∷ 116 ∷ 32 ∷ 50 ∷ 10 ∷ []
+workedText = ascii "build 0 0 0 0 0 0\nscratch 512\nblas 0 0\ntlas 0 0 0 64\nsubmit 0 0 0 0\nnext 2\n"
 
 pub worked : report (sheetBytes 256 1 workedTables) ≡ workedText
 unfolding leAt leBytes refuse judgeFields judgeRecords judgeDrawn sumOfCounts judgeLent presentOf slotsBytes slotBytes instanceBytes instanceFrom words patterns wordsAt planOf build firstOf firstDrawing declaredFrom judgeTables judgeIds judgeEntries judgePackages totalFrom offsetsFrom scratchSize judgeFinal stagingFrom rangesOfEntry rangesFrom compactableFrom entryBlases dependenciesFrom packageLists blasIn tlasIn listIn judge judgeLists packagesAt packagesLent action decodeCells before builtBlas builtBlases builtTlas buildTlases act step run submission past from judgeSection judgeSections judgeSheet readSheet sectionBytes sheetBytes digits spaced line blasLines tlasLines actionCells positions submitLines builtLines report

@@ -1,4 +1,4 @@
--- Submissions over lent bytes, computed: examples 7 and 8, and lists, cuts and starts that demand 3 speaks of. Assumes nothing.
+-- Submissions over lent bytes, computed: examples 7 and 8, and lists, cuts and starts that demand 3 speaks of.
 use Prim.Native.Nat.{ℕ, _-_, _^_}
 use mathlib.Core.Path.{_≡_, refl}
 use mathlib.Core.Bool.{true, false}
@@ -9,8 +9,7 @@ use Rattle.wire.specs.Wire.{leAt, leBytes}
 use Rattle.ray_tracing.specs.Guard.{refuse}
 use Rattle.ray_tracing.specs.Reading.{judgeFields, judgeRecords, judgeLent}
 use Rattle.ray_tracing.specs.Causes.{Cause, cause, bare}
-use Rattle.ray_tracing.specs.Submission.{Lent, Piece, Package, Action, build, useTlas, malformed, Answer, accepted, refused, Outcome, _leaving_}
-use Rattle.ray_tracing.specs.Submission.{blasIn, tlasIn, listIn, judge, judgeLists, packagesAt, packagesLent, action, decodeCells, decode, before, builtBlas, builtBlases, builtTlas, buildTlases, act, step, run, submission}
+use Rattle.ray_tracing.specs.Submission.{Lent, Piece, Package, Action, build, useTlas, malformed, Answer, accepted, refused, Outcome, _leaving_, blasIn, tlasIn, listIn, judge, judgeLists, packagesAt, packagesLent, action, decodeCells, decode, before, builtBlas, builtBlases, builtTlas, buildTlases, act, step, run, submission}
 use Rattle.ray_tracing.specs.History.{Built, latest, log, allowed, acts, tellAction, tellActions, history, since}
 use Rattle.ray_tracing.specs.Claim.{Cut}
 
