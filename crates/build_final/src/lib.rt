@@ -1,10 +1,10 @@
 // What is judged last, before room: 37, then 21 of Tlases, then 21 and 38 of Blases.
-use build_ids::first;
 use ray_tracing::Blas;
 use ray_tracing::BlasId;
 use ray_tracing::BuildAccelerationStructureError;
 use ray_tracing::Resource;
 use ray_tracing::Verdict;
+use ray_tracing::first;
 use records::blas_of_entry;
 use records::entry_at;
 use records::package_at;

@@ -1,8 +1,13 @@
 // Ids first: per entry each geometry's buffers, then the Blas; per package each present slot's Blas, then the Tlas.
 use instance::slot_mention;
 use ray_tracing::BuildAccelerationStructureError;
+use ray_tracing::ENTRY_SIZE;
+use ray_tracing::GEOMETRY_SIZE;
 use ray_tracing::Mentioned;
+use ray_tracing::PACKAGE_SIZE;
+use ray_tracing::SLOT_SIZE;
 use ray_tracing::Verdict;
+use ray_tracing::first;
 use records::blas_mention;
 use records::buffer_mention;
 use records::entry_at;
@@ -21,16 +26,6 @@ ghost use Rattle.ray_tracing.specs.Code.{mentionOf, verdictOf};
 ghost use Rattle.ray_tracing.specs.Plan.{_or_, atE, firstOf, firstDrawing, geometryCount, slotCount, geometryIds, entryIds, slotIds, packageIds, judgeIds, tablesOf};
 ghost use Rattle.ray_tracing.proofs.Inside.{drawnBefore, slotsBefore};
 ghost use Rattle.ray_tracing.specs.Parts.{forPackages, forEntries};
-
-// The first of two.
-pub fn first(a: Verdict, b: Verdict) -> Verdict
-    ensures { λ r. ⌜ verdictOf r ≡ (verdictOf a or verdictOf b) ⌝ }
-{
-    match a {
-        Verdict::Passed => b,
-        Verdict::Refused(_, _, _) => a,
-    }
-}
 
 // What a mention finds, at E.
 fn mention_verdict(m: Mentioned, e: usize, f: usize) -> Verdict
@@ -63,13 +58,13 @@ fn geometry_ids(
     j: usize,
     g: usize,
 ) -> Verdict
-    requires { ⌜ (i * 5 + 5 ≤ length (now entries)) × (g * 44 + 44 ≤ length (now geometries)) ⌝ }
+    requires { ⌜ (i * size 5 + size 5 ≤ length (now entries)) × (g * size 6 + size 6 ≤ length (now geometries)) ⌝ }
     ensures { λ r. ⌜
         verdictOf r ≡ geometryIds (forEntries (now (buffers .entry)) [] [] (now (entries .entry)) (now (geometries .entry))) i j g
         ⌝ }
 {
-    let entry = entry_at(entries, i * 5);
-    let geometry = geometry_at(geometries, g * 44);
+    let entry = entry_at(entries, i * ENTRY_SIZE);
+    let geometry = geometry_at(geometries, g * GEOMETRY_SIZE);
     let id = geometry.buffer;
     let data = mention_verdict(buffer_mention(buffers, id.0 as usize), i, j);
     if entry.kind != 0 {
@@ -91,7 +86,7 @@ fn geometries_ids(
     g: usize,
     count: usize,
 ) -> Verdict
-    requires { ⌜ (i * 5 + 5 ≤ length (now entries)) × ((g + count) * 44 ≤ length (now geometries)) ⌝ }
+    requires { ⌜ (i * size 5 + size 5 ≤ length (now entries)) × ((g + count) * size 6 ≤ length (now geometries)) ⌝ }
     ensures { λ r. ⌜
         verdictOf r
         ≡ firstOf (λ j. geometryIds (forEntries (now (buffers .entry)) [] [] (now (entries .entry)) (now (geometries .entry))) i j (g + j)) 0 count
@@ -110,10 +105,10 @@ fn geometries_ids(
 
 // How many geometries entry i draws.
 pub fn geometry_count(entries: &[u8], i: usize) -> usize
-    requires { ⌜ i * 5 + 5 ≤ length (now entries) ⌝ }
+    requires { ⌜ i * size 5 + size 5 ≤ length (now entries) ⌝ }
     ensures { λ r. ⌜ r ≡ geometryCount (forEntries [] [] [] (now (entries .entry)) []) i ⌝ }
 {
-    let entry = entry_at(entries, i * 5);
+    let entry = entry_at(entries, i * ENTRY_SIZE);
     entry.geometry_count as usize
 }
 
@@ -127,7 +122,7 @@ fn entry_ids(
     g: usize,
     count: usize,
 ) -> Verdict
-    requires { ⌜ (i * 5 + 5 ≤ length (now entries)) × ((g + count) * 44 ≤ length (now geometries)) ⌝ }
+    requires { ⌜ (i * size 5 + size 5 ≤ length (now entries)) × ((g + count) * size 6 ≤ length (now geometries)) ⌝ }
     requires { ⌜ count ≡ geometryCount (forEntries [] [] [] (now entries) []) i ⌝ }
     ensures { λ r. ⌜
         verdictOf r
@@ -135,7 +130,7 @@ fn entry_ids(
         ⌝ }
 {
     let geometry = geometries_ids(buffers, entries, geometries, i, g, count);
-    let entry = entry_at(entries, i * 5);
+    let entry = entry_at(entries, i * ENTRY_SIZE);
     let id = entry.blas;
     let blas = mention_verdict(blas_mention(blases, id.0 as usize), i, 0);
     first(geometry, blas)
@@ -153,7 +148,7 @@ fn entries_ids(buffers: &[u8], blases: &[u8], entries: &[u8], geometries: &[u8])
         (length (now (entries .entry)) / size 5)
         ⌝ }
 {
-    let n = entries.len() / 5;
+    let n = entries.len() / ENTRY_SIZE;
     let mut i: usize = 0;
     let mut g: usize = 0;
     while i < n {
@@ -170,15 +165,15 @@ fn entries_ids(buffers: &[u8], blases: &[u8], entries: &[u8], geometries: &[u8])
 
 // The j-th slot of package p, which is slot s: its Blas, if it is present.
 fn slot_ids(blases: &[u8], slots: &[u8], p: usize, j: usize, s: usize) -> Verdict
-    requires { ⌜ s * 56 + 56 ≤ length (now slots) ⌝ }
+    requires { ⌜ s * size 8 + size 8 ≤ length (now slots) ⌝ }
     ensures { λ r. ⌜ verdictOf r ≡ slotIds (forPackages (now (blases .entry)) [] [] (now (slots .entry))) p j s ⌝ }
 {
-    mention_verdict(slot_mention(blases, slots, s * 56), p, j)
+    mention_verdict(slot_mention(blases, slots, s * SLOT_SIZE), p, j)
 }
 
 // The slots of package p, from slot s on.
 fn slots_ids(blases: &[u8], slots: &[u8], p: usize, s: usize, count: usize) -> Verdict
-    requires { ⌜ (s + count) * 56 ≤ length (now slots) ⌝ }
+    requires { ⌜ (s + count) * size 8 ≤ length (now slots) ⌝ }
     ensures { λ r. ⌜
         verdictOf r ≡ firstOf (λ j. slotIds (forPackages (now (blases .entry)) [] [] (now (slots .entry))) p j (s + j)) 0 count
         ⌝ }
@@ -196,10 +191,10 @@ fn slots_ids(blases: &[u8], slots: &[u8], p: usize, s: usize, count: usize) -> V
 
 // How many slots package p draws.
 pub fn slot_count(packages: &[u8], p: usize) -> usize
-    requires { ⌜ p * 4 + 4 ≤ length (now packages) ⌝ }
+    requires { ⌜ p * size 7 + size 7 ≤ length (now packages) ⌝ }
     ensures { λ r. ⌜ r ≡ slotCount (forPackages [] [] (now (packages .entry)) []) p ⌝ }
 {
-    let package = package_at(packages, p * 4);
+    let package = package_at(packages, p * PACKAGE_SIZE);
     package.slot_count as usize
 }
 
@@ -213,7 +208,7 @@ fn package_ids(
     s: usize,
     count: usize,
 ) -> Verdict
-    requires { ⌜ (p * 4 + 4 ≤ length (now packages)) × ((s + count) * 56 ≤ length (now slots)) ⌝ }
+    requires { ⌜ (p * size 7 + size 7 ≤ length (now packages)) × ((s + count) * size 8 ≤ length (now slots)) ⌝ }
     requires { ⌜ count ≡ slotCount (forPackages [] [] (now packages) []) p ⌝ }
     ensures { λ r. ⌜
         verdictOf r
@@ -221,7 +216,7 @@ fn package_ids(
         ⌝ }
 {
     let slot = slots_ids(blases, slots, p, s, count);
-    let package = package_at(packages, p * 4);
+    let package = package_at(packages, p * PACKAGE_SIZE);
     let id = package.tlas;
     let tlas = mention_verdict(tlas_mention(tlases, id.0 as usize), p, 0);
     first(slot, tlas)
@@ -239,7 +234,7 @@ fn packages_ids(blases: &[u8], tlases: &[u8], packages: &[u8], slots: &[u8]) -> 
         (length (now (packages .entry)) / size 7)
         ⌝ }
 {
-    let n = packages.len() / 4;
+    let n = packages.len() / PACKAGE_SIZE;
     let mut p: usize = 0;
     let mut s: usize = 0;
     while p < n {

@@ -1,5 +1,4 @@
 // Packages in turn: 34 and 35 of their present slots, then 36.
-use build_ids::first;
 use build_ids::slot_count;
 use instance::check_slot;
 use instance::present_of;
@@ -7,6 +6,7 @@ use ray_tracing::BuildAccelerationStructureError;
 use ray_tracing::CheckedInstance;
 use ray_tracing::Tlas;
 use ray_tracing::Verdict;
+use ray_tracing::first;
 use records::tlas_of_package;
 ghost use mathlib.Core.Path.{_≡_};
 ghost use mathlib.Core.List.{[]};

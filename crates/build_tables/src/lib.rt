@@ -1,9 +1,9 @@
 // The tables that a build is lent, judged first: the scratch alignment, then sections 1 to 8 in turn.
-use build_ids::first;
 use ray_tracing::BuildAccelerationStructureError;
 use ray_tracing::Judged;
 use ray_tracing::SheetError;
 use ray_tracing::Verdict;
+use ray_tracing::first;
 use sheet::judge_lent;
 ghost use mathlib.Core.Path.{_≡_};
 ghost use Prim.Native.Nat.{_-_, _≤_, _<_};

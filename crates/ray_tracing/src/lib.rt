@@ -1,6 +1,35 @@
 // Ids, the records of lent tables by value, and what the entry points answer. The paper as definitions stands in specs/.
 ghost use mathlib.Core.Path.{_≡_};
 ghost use mathlib.Core.Bool.{_&&_, _||_, cond};
+ghost use Rattle.ray_tracing.specs.Plan.{_or_};
+ghost use Rattle.ray_tracing.specs.Code.{verdictOf};
+
+// The bytes of a record of each section, and of an instance.
+pub const BUFFER_SIZE: usize = 9;
+
+pub const BLAS_SIZE: usize = 28;
+
+pub const DECLARED_SIZE: usize = 18;
+
+pub const TLAS_SIZE: usize = 22;
+
+pub const ENTRY_SIZE: usize = 5;
+
+pub const GEOMETRY_SIZE: usize = 44;
+
+pub const PACKAGE_SIZE: usize = 4;
+
+pub const SLOT_SIZE: usize = 56;
+
+pub const ACTION_SIZE: usize = 3;
+
+pub const INSTANCE_SIZE: usize = 64;
+
+// An index or a transform buffer that is none.
+pub const NO_BUFFER: u16 = 65535;
+
+// The cells of each Tlas's list.
+pub const TLAS_ROOM: usize = 512;
 
 pub struct BufferId(pub u16);
 
@@ -307,6 +336,16 @@ pub fn either(a: bool, b: bool) -> bool
     ensures { λ r. ⌜ r ≡ (a || b) ⌝ }
 {
     if a { true } else { b }
+}
+
+// The first of two verdicts that refuses.
+pub fn first(a: Verdict, b: Verdict) -> Verdict
+    ensures { λ r. ⌜ verdictOf r ≡ (verdictOf a or verdictOf b) ⌝ }
+{
+    match a {
+        Verdict::Passed => b,
+        Verdict::Refused(_, _, _) => a,
+    }
 }
 
 pub fn pick(b: bool, x: usize, y: usize) -> usize
