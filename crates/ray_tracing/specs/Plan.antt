@@ -144,9 +144,6 @@ slotPresent slots s = presentAt slots (s * size 8)
 abbrev pub slotBlas : List ℕ → ℕ → ℕ
 slotBlas slots s = fieldAt 8 slots (s * size 8) 1
 
-abbrev pub slotCustomData : List ℕ → ℕ → ℕ
-slotCustomData slots s = fieldAt 8 slots (s * size 8) 2
-
 -- "A Blas's list is its records in order": of the n declared geometries from i on, those of the Blas
 unfoldable pub declaredFrom : List ℕ → ℕ → ℕ → ℕ → List BlasGeometrySizeDescriptor
 declaredFrom t blas i zero = []
@@ -447,16 +444,7 @@ written p o =
     }
 
 abbrev pub onlyRanges : Outputs → Outputs → Outputs
-onlyRanges p o =
-    record {
-      «blas_offsets» = o .«blas_offsets»;
-      «tlas_offsets» = o .«tlas_offsets»;
-      «staging_ranges» = o .«staging_ranges»;
-      instances = o .instances;
-      «init_ranges» = sets (o .«init_ranges») 0 (p .«init_ranges»);
-      compactable = o .compactable;
-      lists = o .lists;
-    }
+onlyRanges p o = written (outputsOf [] [] [] [] (p .«init_ranges») [] []) o
 
 abbrev pub leaves : Building → Outputs → Outputs → Outputs
 leaves (recorded n w) p o = written p o
