@@ -30,5 +30,8 @@ pub mod Staged
 pub mod RecordedAction
 pub mod PlanLaws
 pub mod Lent
+pub mod Told
+pub mod Outcomes
+pub mod Callers
 pub mod DemandExamples
 pub mod Examples

@@ -6,7 +6,7 @@ use mathlib.Core.Option.{none}
 use mathlib.Core.List.{List}
 use Rattle.ray_tracing.specs.declared.Submitted.{Submitted}
 use Rattle.ray_tracing.specs.Submission.{Lent, Outcome, Answer, _leaving_, decode, judge, submission, counterOf, answerOf, pieceOf}
-use Rattle.ray_tracing.specs.Claim.{Call, Demand-3}
+use Rattle.ray_tracing.proofs.Outcomes.{OutcomeDemand, OutcomeCall}
 use Rattle.ray_tracing.proofs.Demand3.{demand-3}
 use Rattle.submit.specs.declared.CommandIndices.{CommandIndices}
 use Rattle.submit.specs.declared.Validated.{Validated}
@@ -17,7 +17,7 @@ use Rattle.submit.specs.Demand.{Buffers, lent, Submits, Validates, Told-
 pub submit-is-call :
     (n : ℕ) (x : Buffers) (a l : List ℕ) (r : Submitted) (y : Buffers)
     → Submits n x a l r y
-    → Call (lent n x) (pieceOf a l) (answerOf r) (lent (counterOf r) y)
+    → OutcomeCall (lent n x) (pieceOf a l) (answerOf r) (lent (counterOf r) y)
 submit-is-call n x a l r y e = e
 
 -- so is the wrapper's, and the next call goes on with the counter that it stored
@@ -47,5 +47,5 @@ validate-is-call i x a l v j y e =
 
 -- demand 3, of whatever a station lends: any start that is not refused
 pub demand-3-of-the-routines :
-    (n : ℕ) (x : Buffers) → n < 2 ^ 64 → judge (lent n x) ≡ none → Demand-3 (lent n x)
+    (n : ℕ) (x : Buffers) → n < 2 ^ 64 → judge (lent n x) ≡ none → OutcomeDemand (lent n x)
 demand-3-of-the-routines n x = demand-3 (lent n x)

@@ -4,7 +4,7 @@ use mathlib.Core.Path.{_≡_}
 use mathlib.Core.List.{List}
 use Rattle.ray_tracing.specs.declared.Submitted.{Submitted}
 use Rattle.ray_tracing.specs.Submission.{Lent, Piece, Answer, answerNumbers, decode, submission, outcomeOf, lentOf, pieceOf}
-use Rattle.ray_tracing.specs.Claim.{Call}
+use Rattle.ray_tracing.proofs.Outcomes.{OutcomeCall}
 use Rattle.submit.specs.declared.CommandIndices.{CommandIndices}
 use Rattle.submit.specs.declared.Validated.{Validated}
 use Rattle.submit.specs.Numbers.{shown, shownOf, numbersOf}
@@ -35,5 +35,5 @@ pub record Validates (i : CommandIndices) (x : Buffers) (a l : List ℕ) (v : Va
 -- a call of the claim that told its caller the same numbers, and left what is left
 pub record Told-call (l : Lent) (p : Piece) (v : Validated) (l′ : Lent) : Type 0 where
   pub answer : Answer
-  pub is : Call l p answer l′
+  pub is : OutcomeCall l p answer l′
   pub numbers : numbersOf v ≡ answerNumbers answer
