@@ -8,7 +8,7 @@ use lib.ListN.{length, replicate}
 use Rattle.wire.specs.Wire.{leAt, leBytes}
 use Rattle.ray_tracing.specs.Guard.{refuse}
 use Rattle.ray_tracing.specs.Reading.{judgeFields, judgeRecords, judgeLent}
-use Rattle.ray_tracing.specs.Causes.{Cause, cause, bare}
+use Rattle.ray_tracing.specs.Causes.{Cause, cause, unbuiltInUse, bare}
 use Rattle.ray_tracing.specs.Submission.{Lent, Piece, Package, Action, build, useTlas, malformed, Answer, accepted, refused, Outcome, _leaving_, blasIn, tlasIn, listIn, judge, judgeLists, packagesAt, packagesLent, action, decodeCells, decode, before, builtBlas, builtBlases, builtTlas, buildTlases, act, step, run, submission}
 use Rattle.ray_tracing.specs.History.{Built, latest, log, allowed, acts, tellAction, tellActions, history, since}
 use Rattle.ray_tracing.specs.Claim.{Cut}
@@ -194,7 +194,7 @@ newer-and-destroyed = refl
 -- one without number and destroyed is 42, and gives Tlas, Blas
 pub unnumbered-and-destroyed :
     submission (single 9 (blasWith 0 1 0) 4) (decode (piece (2 ∷ 0 ∷ 0 ∷ 0 ∷ []) []))
-    ≡ refused 0 (cause 42 0 0 0) leaving single 9 (blasWith 0 1 0) 4
+    ≡ refused 0 (unbuiltInUse 0 0) leaving single 9 (blasWith 0 1 0) 4
 unfolding judge judgeLent judgeRecords judgeFields judgeLists leAt leBytes blasIn tlasIn listIn refuse packagesAt packagesLent action decodeCells before builtBlas builtBlases builtTlas buildTlases act step run submission
 unnumbered-and-destroyed = refl
 

@@ -115,7 +115,7 @@ told-tlases n (p ∷ ps) l =
 
 told-unusable-blas : (l : Lent) (t b : ℕ) → EachTold (unusableBlas l t b)
 told-unusable-blas l t b =
-    told-or (told-when (eqb (blas l b .«built_index») 0) (told-cause 42 t b (lit< tt)))
+    told-or (told-when (eqb (blas l b .«built_index») 0) (record { above = lit< tt; third = refl }))
     (told-or (told-when (ltb (tlas l t .«built_index») (blas l b .«built_index»)) (told-cause 44 b t (lit< tt)))
     (told-when (eqb (blas l b .destroyed) 1) (told-cause 21 b 0 (lit< tt))))
 

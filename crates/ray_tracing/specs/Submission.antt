@@ -17,7 +17,7 @@ use Rattle.ray_tracing.specs.declared.Validated.{Validated}
 use Rattle.ray_tracing.specs.Layout.{layout, size, placeOf, widthOf}
 use Rattle.ray_tracing.specs.Mentions.{blasMention, tlasMention, blasOf, tlasOf}
 use Rattle.ray_tracing.specs.Reading as reading
-use Rattle.ray_tracing.specs.Causes.{Cause, cause, bare, submissionCause}
+use Rattle.ray_tracing.specs.Causes.{Cause, cause, unbuiltInUse, bare, submissionCause}
 
 infixr 30 _orElse_
 infix 20 _leaving_
@@ -332,7 +332,7 @@ buildTlases n (p ∷ ps) l =
 -- 42 gives Tlas, Blas; 44 Blas, Tlas; 21 Blas
 abbrev pub unusableBlas : Lent → ℕ → ℕ → Option Cause
 unusableBlas l t b =
-    causeWhen (eqb (blas l b .«built_index») 0) (cause 42 t b 0)
+    causeWhen (eqb (blas l b .«built_index») 0) (unbuiltInUse t b)
     orElse causeWhen (ltb (tlas l t .«built_index») (blas l b .«built_index»)) (cause 44 b t 0)
     orElse causeWhen (eqb (blas l b .destroyed) 1) (cause 21 b 0 0)
 
