@@ -29,6 +29,7 @@ pub mod Stretches
 pub mod Staged
 pub mod RecordedAction
 pub mod PlanLaws
+pub mod Vulkan
 pub mod Lent
 pub mod Told
 pub mod Outcomes
