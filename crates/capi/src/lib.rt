@@ -1,15 +1,15 @@
 // The entry points as C functions of a static library: each forwards, and says its answer in numbers.
 use build::build_acceleration_structures;
-use capi_answers::AppendAnswer;
-use capi_answers::BuildAnswer;
-use capi_answers::ReportAnswer;
-use capi_answers::SheetAnswer;
 use capi_answers::append_answer;
 use capi_answers::build_answer;
 use capi_answers::report_answer;
 use capi_answers::sheet_answer;
 use instance::append_instance;
 use instance::instance_from;
+use ray_tracing::AppendAnswer;
+use ray_tracing::BuildAnswer;
+use ray_tracing::ReportAnswer;
+use ray_tracing::SheetAnswer;
 use ray_tracing::TlasId;
 use report::report;
 use sheet::read_sheet;
@@ -24,7 +24,7 @@ ghost use Rattle.ray_tracing.specs.Submission.{submission, decode, lentOf, piec
 ghost use Rattle.ray_tracing.specs.Report.{reportRule, reportBytes};
 ghost use Rattle.ray_tracing.specs.Plan.{tablesOf, outputsOf, outputsAfter};
 ghost use Rattle.submit.specs.Numbers.{shown};
-ghost use Rattle.capi_answers.specs.Answers.{sheetAnswer, builtAnswer, appendAnswer, reportAnswer};
+ghost use Rattle.ray_tracing.specs.Answers.{sheetAnswer, builtAnswer, appendAnswer, reportAnswer};
 ghost use Rattle.capi.specs.Told.{submitTold};
 
 #[repr(C)]

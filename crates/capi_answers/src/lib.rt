@@ -1,11 +1,15 @@
-// What the entry points answer, as C structs of numbers, unused ones 0.
+// The entry points' answers as the numbers of C structs, unused ones 0.
 use causes::Figures;
 use causes::build_figures;
 use causes::sheet_number;
+use ray_tracing::AppendAnswer;
 use ray_tracing::Appended;
+use ray_tracing::BuildAnswer;
 use ray_tracing::Built;
+use ray_tracing::ReportAnswer;
 use ray_tracing::Reported;
 use ray_tracing::Sheet;
+use ray_tracing::SheetAnswer;
 use ray_tracing::SheetRead;
 use ray_tracing::Written;
 ghost use mathlib.Core.Path.{_≡_};
@@ -15,76 +19,7 @@ ghost use Rattle.ray_tracing.specs.Plan.{recorded, nothing-recorded, not-built,
 ghost use Rattle.ray_tracing.specs.Instances.{appendedOf};
 ghost use Rattle.ray_tracing.specs.Report.{reportedOf};
 ghost use Rattle.causes.specs.Figures.{causeOf};
-ghost use Rattle.capi_answers.specs.Answers.{sheetAnswer, builtAnswer, appendAnswer, reportAnswer};
-
-// What reading a sheet came to: number and place, or version, alignment, counter, and start and count of sections 1 to 9.
-#[repr(C)]
-pub struct SheetAnswer {
-    pub number: u64,
-    pub place: u64,
-    pub version: u64,
-    pub alignment: u64,
-    pub counter: u64,
-    pub buffers_start: u64,
-    pub buffers_count: u64,
-    pub blases_start: u64,
-    pub blases_count: u64,
-    pub declared_start: u64,
-    pub declared_count: u64,
-    pub tlases_start: u64,
-    pub tlases_count: u64,
-    pub entries_start: u64,
-    pub entries_count: u64,
-    pub geometries_start: u64,
-    pub geometries_count: u64,
-    pub packages_start: u64,
-    pub packages_count: u64,
-    pub slots_start: u64,
-    pub slots_count: u64,
-    pub actions_start: u64,
-    pub actions_count: u64,
-}
-
-// What a build came to: number, E and figures, or whether it is recorded, its scratch size and how many elements of each output
-// were written.
-#[repr(C)]
-pub struct BuildAnswer {
-    pub number: u64,
-    pub e0: u64,
-    pub e1: u64,
-    pub f0: u64,
-    pub f1: u64,
-    pub f2: u64,
-    pub recorded: u64,
-    pub scratch_size: u64,
-    pub blas_offsets: u64,
-    pub tlas_offsets: u64,
-    pub staging_ranges: u64,
-    pub instances: u64,
-    pub init_ranges: u64,
-    pub compactable: u64,
-    pub lists: u64,
-}
-
-// What a submission came to: number, action and figures.
-// What appending an instance came to: number, E and figures, or how many bytes are in use.
-#[repr(C)]
-pub struct AppendAnswer {
-    pub number: u64,
-    pub e0: u64,
-    pub e1: u64,
-    pub f0: u64,
-    pub f1: u64,
-    pub f2: u64,
-    pub used: u64,
-}
-
-// What a report came to: 0 or 39, and how many bytes were written.
-#[repr(C)]
-pub struct ReportAnswer {
-    pub number: u64,
-    pub written: u64,
-}
+ghost use Rattle.ray_tracing.specs.Answers.{sheetAnswer, builtAnswer, appendAnswer, reportAnswer};
 
 fn sheet_accepted(x: Sheet) -> SheetAnswer
     ensures { λ r. ⌜ r ≡ sheetAnswer (accepted x) ⌝ }
@@ -231,9 +166,9 @@ pub fn build_answer(built: Built) -> BuildAnswer
     }
 }
 
-// The counter steps where it lies.
-pub fn append_answer(appended: Appended) -> AppendAnswer
-    ensures { λ r. ⌜ r ≡ appendAnswer (appendedOf appended) ⌝ }
+// `used` bytes were in use before, and still are where it is refused.
+pub fn append_answer(used: usize, appended: Appended) -> AppendAnswer
+    ensures { λ r. ⌜ r ≡ appendAnswer used (appendedOf appended) ⌝ }
 {
     match appended {
         Appended::InUse(n) => AppendAnswer {
@@ -254,13 +189,12 @@ pub fn append_answer(appended: Appended) -> AppendAnswer
                 f0: figures.first,
                 f1: figures.second,
                 f2: figures.third,
-                used: 0,
+                used: used as u64,
             }
         }
     }
 }
 
-// `instance` is a slot's fields after its present byte.
 pub fn report_answer(reported: Reported) -> ReportAnswer
     ensures { λ r. ⌜ r ≡ reportAnswer (reportedOf reported) ⌝ }
 {

@@ -226,10 +226,23 @@ bytesAfter (refused c) new old = old
 
 unfoldable pub appendBytes : List ℕ → List ℕ → TlasId → TlasInstance → List ℕ → ℕ → List ℕ
 appendBytes tlases blases tlas i instances used =
-    bytesAfter (appendRule tlases blases tlas i (length instances) used) (sets instances used (instanceBytes i (addressFor blases i))) instances
+    bytesAfter
+    (appendRule tlases blases tlas i (length instances) used)
+    (sets instances used (instanceBytes i (addressFor blases i)))
+    instances
 
 -- a call of it, lent the bytes b with so many in use: it answered a, by what it says of that, and left p
-pub record AppendsAs {A : Type 0} (says : Appending → A) (tlases blases : List ℕ) (tlas : TlasId) (i : TlasInstance) (b : List ℕ) (used : ℕ) (a : A) (p : List ℕ) : Type 0 where
+pub record AppendsAs
+    {A : Type 0}
+    (says : Appending → A)
+    (tlases blases : List ℕ)
+    (tlas : TlasId)
+    (i : TlasInstance)
+    (b : List ℕ)
+    (used : ℕ)
+    (a : A)
+    (p : List ℕ)
+    : Type 0 where
   pub answer : a ≡ says (appendRule tlases blases tlas i (length b) used)
   pub left : p ≡ appendBytes tlases blases tlas i b used
 

@@ -15,6 +15,7 @@ pub mod Claim
 pub mod Writing
 pub mod Report
 pub mod Explain
+pub mod Answers
 pub mod Code
 pub mod Parts
 pub mod Sizes

@@ -326,6 +326,76 @@ pub enum Reported {
     TooShort,
 }
 
+// What the exported functions answer, as C structs of numbers, unused ones 0.
+
+// What reading a sheet came to: number and place, or version, alignment, counter, and start and count of sections 1 to 9.
+#[repr(C)]
+pub struct SheetAnswer {
+    pub number: u64,
+    pub place: u64,
+    pub version: u64,
+    pub alignment: u64,
+    pub counter: u64,
+    pub buffers_start: u64,
+    pub buffers_count: u64,
+    pub blases_start: u64,
+    pub blases_count: u64,
+    pub declared_start: u64,
+    pub declared_count: u64,
+    pub tlases_start: u64,
+    pub tlases_count: u64,
+    pub entries_start: u64,
+    pub entries_count: u64,
+    pub geometries_start: u64,
+    pub geometries_count: u64,
+    pub packages_start: u64,
+    pub packages_count: u64,
+    pub slots_start: u64,
+    pub slots_count: u64,
+    pub actions_start: u64,
+    pub actions_count: u64,
+}
+
+// What a build came to: number, E and figures, or whether it is recorded, its scratch size and how many elements of each output
+// were written.
+#[repr(C)]
+pub struct BuildAnswer {
+    pub number: u64,
+    pub e0: u64,
+    pub e1: u64,
+    pub f0: u64,
+    pub f1: u64,
+    pub f2: u64,
+    pub recorded: u64,
+    pub scratch_size: u64,
+    pub blas_offsets: u64,
+    pub tlas_offsets: u64,
+    pub staging_ranges: u64,
+    pub instances: u64,
+    pub init_ranges: u64,
+    pub compactable: u64,
+    pub lists: u64,
+}
+
+// What appending an instance came to: number, E and figures; and how many bytes are in use.
+#[repr(C)]
+pub struct AppendAnswer {
+    pub number: u64,
+    pub e0: u64,
+    pub e1: u64,
+    pub f0: u64,
+    pub f1: u64,
+    pub f2: u64,
+    pub used: u64,
+}
+
+// What writing a text came to: 0 or 39, and how many bytes were written.
+#[repr(C)]
+pub struct ReportAnswer {
+    pub number: u64,
+    pub written: u64,
+}
+
 pub fn both(a: bool, b: bool) -> bool
     ensures { λ r. ⌜ r ≡ (a && b) ⌝ }
 {

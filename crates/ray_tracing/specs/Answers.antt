@@ -1,12 +1,13 @@
 -- The exported answers as records of numbers: what the definitions' answers come to, unused fields 0. Assumes nothing.
+use Prim.Native.Nat.{ℕ}
 use Rattle.ray_tracing.specs.Reading.{Reading, accepted, rejected}
 use Rattle.ray_tracing.specs.Plan.{Building, recorded, nothing-recorded, not-built}
 use Rattle.ray_tracing.specs.Instances.{Appending, inUse, refused}
 use Rattle.ray_tracing.specs.Report.{Reporting}
-use Rattle.capi_answers.specs.declared.SheetAnswer.{SheetAnswer}
-use Rattle.capi_answers.specs.declared.BuildAnswer.{BuildAnswer}
-use Rattle.capi_answers.specs.declared.AppendAnswer.{AppendAnswer}
-use Rattle.capi_answers.specs.declared.ReportAnswer.{ReportAnswer}
+use Rattle.ray_tracing.specs.declared.SheetAnswer.{SheetAnswer}
+use Rattle.ray_tracing.specs.declared.BuildAnswer.{BuildAnswer}
+use Rattle.ray_tracing.specs.declared.AppendAnswer.{AppendAnswer}
+use Rattle.ray_tracing.specs.declared.ReportAnswer.{ReportAnswer}
 
 -- "number, place", or where each section starts and how many records it has
 abbrev pub sheetAnswer : Reading → SheetAnswer
@@ -120,11 +121,11 @@ builtAnswer (not-built e f c) =
       lists = 0;
     }
 
--- the bytes in use, or the cause with its figures; E is 0, 0
-abbrev pub appendAnswer : Appending → AppendAnswer
-appendAnswer (inUse n) = record { number = 0; e0 = 0; e1 = 0; f0 = 0; f1 = 0; f2 = 0; used = n }
-appendAnswer (refused c) =
-    record { number = c .number; e0 = 0; e1 = 0; f0 = c .first; f1 = c .second; f2 = c .third; used = 0 }
+-- the bytes in use, which a refusal leaves as they were, and the cause with its figures; E is 0, 0
+abbrev pub appendAnswer : ℕ → Appending → AppendAnswer
+appendAnswer used (inUse n) = record { number = 0; e0 = 0; e1 = 0; f0 = 0; f1 = 0; f2 = 0; used = n }
+appendAnswer used (refused c) =
+    record { number = c .number; e0 = 0; e1 = 0; f0 = c .first; f1 = c .second; f2 = c .third; used = used }
 
 -- "lent output too short | 39", or how many bytes were written
 abbrev pub reportAnswer : Reporting → ReportAnswer
