@@ -1,10 +1,9 @@
 """What the sheet program prints for a sheet, from the readings in reading.py and paper.py, and what it refuses in words."""
 from paper import build, submit
-from reading import read
+from reading import SIZES, read
 
 # as many elements of each output as any sheet can need
 ROOMS = (64, 32, 64, 32768, 2304, 64, 640)
-SIZES = (9, 28, 18, 22, 5, 44, 4, 56, 3)
 
 # the column "Cause" of the paper's table, each with the words for its figures that are printed
 CAUSES = {
