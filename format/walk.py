@@ -9,6 +9,10 @@ from typing import NamedTuple
 from layout import COUNT_WIDTH, HEAD, LIMITS, NONE, SECTIONS, VERSION, section, single
 
 
+# each section's fields with their places and names
+SINGLE = {s.number: tuple(single(s.fields)) for s in SECTIONS}
+
+
 class Refusal(NamedTuple):
     number: int
     place: int
@@ -34,8 +38,9 @@ class Table(NamedTuple):
 
 
 class Walked:
-    def __init__(self, data):
-        self.data, self.at = data, 0
+    def __init__(self, data, is_cut=False):
+        """`is_cut`: there may be more bytes than are given here."""
+        self.data, self.at, self.is_cut = data, 0, is_cut
         self.head, self.tables, self.refusal = {}, [], None
         self.left = 0  # bytes after what was walked
         try:
@@ -69,7 +74,7 @@ class Walked:
             self.walk_section(s)
         if self.at < len(self.data):
             more = len(self.data) - self.at
-            self.refuse(3, self.at, 0, -1, "", f"{bytes_said(more)} after the sheet's end")
+            self.refuse(3, self.at, 0, -1, "", f"{'at least ' * self.is_cut}{bytes_said(more)} after the sheet's end")
 
     def walk_section(self, s):
         place, count = self.at, self.take(COUNT_WIDTH, s.number)
@@ -111,7 +116,7 @@ def bytes_said(n):
 
 def judged(s, r, take, blas_kind, count_of):
     """The fields of a record in turn, as (field, name, value, whether it may have that value); r is filled with them."""
-    for f, _, name in single(s.fields):
+    for f, _, name in SINGLE[s.number]:
         value = r.values[name] = take(f, name)
         used = is_used(f, r.values, r.boxes)
         if not used:

@@ -6,6 +6,7 @@ import sys
 sys.path.insert(0, str(pathlib.Path(__file__).resolve().parent.parent / "format"))
 
 from layout import LIMITS, NONE, SECTIONS, SIZES, single  # noqa: E402, F401
+from refusals import CAUSES  # noqa: E402, F401
 from walk import Record, Walked, judged  # noqa: E402
 
 
