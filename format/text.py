@@ -59,7 +59,7 @@ def about(walked, number, i, declared):
         return f"{v['size']} bytes, {bits_text(s.fields[1], v['marks'])}" if v["marks"] else f"{v['size']} bytes"
     if number == 2:
         return f"{value_text(s.fields[0], v['kind'])}, {declared.get(i, 0)} declared"
-    return f"at most {v['most_instances']} instances"
+    return f"instances: {v['most_instances']} at most"
 
 
 class Shown:

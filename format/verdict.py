@@ -75,3 +75,7 @@ class Verdict:
             if section == 0 and self.place[2] and self.number != 2:
                 return
             yield f"{self.number}: {self.named or self.words.partition(': ')[2]}"
+
+    def named_ids(self):
+        """The Blases and Tlases that the program's words for a refused action name."""
+        return re.findall(r", (Blas|Tlas) (\d+)", self.words)
