@@ -84,4 +84,8 @@ def main():
 
 
 if __name__ == "__main__":
-    sys.exit(main())
+    try:
+        sys.exit(main())
+    except Exception as e:  # whatever it is, there is no answer, and one line says so
+        say("format/edge.py", f"{type(e).__name__}: {e}")
+        sys.exit(2)

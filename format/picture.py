@@ -47,10 +47,11 @@ def near(drawn):
 
 
 def footprint(drawn):
-    """A size of the squares at which neighbours stay apart, one unit at most."""
+    """A size of the squares at which neighbours stay apart, one unit at most, if they can then still be seen."""
     places = sorted({(d.x, d.y) for d in drawn})
     gaps = [max(abs(a[0] - b[0]), abs(a[1] - b[1])) for k, a in enumerate(places) for b in places[k + 1 : k + 40]]
-    return min(1.0, 0.8 * min(gaps)) if gaps else 1.0
+    spread = max(max(ends) - min(ends) for ends in zip(*places))
+    return max(min(1.0, 0.8 * min(gaps)), spread / 80) if gaps else 1.0
 
 
 def colour(blas):
@@ -148,7 +149,7 @@ def put_plan(block, i, drawn, red):
     block.parts.append("</g>")
     block.width, block.height = max(block.width, plan.width), math.ceil(plan.top + plan.height) + 2
     x, y = [d.x for d in drawn], [d.y for d in drawn]
-    block.text(f"x {number(min(x))} to {number(max(x))}, y {number(min(y))} to {number(max(y))}; squares of {number(size)}", size=12)
+    block.text(f"x {min(x):.4g} to {max(x):.4g}, y {min(y):.4g} to {max(y):.4g}; squares of {size:.3g}", size=12)
 
 
 def legend(walked, refused):

@@ -7,6 +7,7 @@ from layout import COUNT_WIDTH, HEAD, NONE, SECTIONS, VERSION, section
 from walk import SINGLE, Walked, is_used, named, spoken
 
 BY_ONE = {s.one: s for s in SECTIONS}
+FIELDS = {(s.number, f.name): f for s in SECTIONS for f in s.fields}
 WIDTH = 120
 IDENTITY = (1.0, 0.0, 0.0, 0.0, 0.0, 1.0, 0.0, 0.0, 0.0, 0.0, 1.0, 0.0)
 
@@ -93,7 +94,9 @@ class Shown:
             if f.times > 1:
                 words = [w + (" /" if k % 4 == 3 and k + 1 < f.times else "") for k, w in enumerate(words)]
             marks = {self.remark(number, i, f, n) for n in groups[f.name]} - {""}
-            yield f"{f.name} {' '.join(words)}{''.join(sorted(marks))}"
+            text = f"{f.name} {' '.join(words)}"
+            # of a transform that the sheet cuts off what there is
+            yield text + "".join(sorted(marks)) if len(words) == f.times else f"({text})"
 
     def is_implied(self, s, f, shown, r):
         """Whether a field that is not shown has the value that one left out has, or is not there."""
@@ -108,22 +111,22 @@ class Shown:
         return names[0] not in r.unused or any(r.values[n] for n in names)
 
     def wrong_sum(self, f):
-        """Whether the drawn section has another count than is drawn: then each count is shown."""
+        """Whether there are more or fewer records than are drawn: then each count is shown."""
         tables = self.walked.tables
         if len(tables) < f.draws:
             return True
-        return sum(r.values.get(f.name, 0) for r in tables[f.draws - 2].records) != tables[f.draws - 1].count
+        return sum(r.values.get(f.name, 0) for r in tables[f.draws - 2].records) != len(tables[f.draws - 1].records)
 
     def record(self, number, i, shown_as, indent=""):
         for words in self.verdict.marks_of(number, i):
             self.out.append(f"{indent}# REFUSED {words}")
         line = f"{indent}{section(number).one} {shown_as}:"
         for k, part in enumerate(self.fields(number, i)):
-            if k and len(line) + len(part) + 2 > WIDTH:
+            if k and part[0] != "(" and len(line) + len(part) + 2 > WIDTH:
                 self.out.append(line + ",")
                 line = f"{indent}    {part}"
             else:
-                line += f"{',' if k else ''} {part}"
+                line += f"{',' if k and part[0] != '(' else ''} {part}"
         self.out.append(line)
 
     def head(self, number):
@@ -167,8 +170,10 @@ class Shown:
             self.head(s.number)
             for i in range(len(w.tables[s.number - 1].records)):
                 self.record(s.number, i, i)
+        for number in range(len(w.tables) + 1, len(SECTIONS) + 1):
+            self.out += [f"# REFUSED {words}" for words in self.verdict.marks_of(number, -1)]
         if w.left:
-            self.out += ["", f"# {w.left} bytes that are not shown, from byte {w.at} on"]
+            self.out += ["", f"# not shown: {w.left} byte{'s' * (w.left > 1)}, from byte {w.at} on"]
         return "\n".join(self.out) + "\n"
 
 
@@ -199,6 +204,8 @@ def statements(text):
 
 
 def number_of(f, word):
+    if word.isascii() and word.isdigit():
+        return int(word)
     names = {name.lower(): n for n, name in f.values.items()}
     if f.none and word.lower() == "none":
         return NONE
@@ -237,7 +244,7 @@ class Made:
         if s.one == "slot" and name == "at":
             self.put_translation(words)
             return
-        f = next((f for f in s.fields if f.name == name), None)
+        f = FIELDS.get((s.number, name))
         if f is None:
             raise BadText(self.line, f"{s.one} has no field {name}; it has {', '.join(f.name for f in s.fields)}")
         words = [w for w in words if w != "/"] if f.times > 1 else words

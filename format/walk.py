@@ -3,14 +3,16 @@
 The walk goes on past a value outside its field, a count above its limit and counts that do not add up, as far as the bytes reach, so
 that all of a refused sheet can be looked at; it stops at a version that is not 1 and where the bytes end.
 """
+import struct
 from dataclasses import dataclass, field
 from typing import NamedTuple
 
 from layout import COUNT_WIDTH, HEAD, LIMITS, NONE, SECTIONS, VERSION, section, single
 
 
-# each section's fields with their places and names
+# each section's fields with their places and names, and a whole record
 SINGLE = {s.number: tuple(single(s.fields)) for s in SECTIONS}
+WHOLE = {k: struct.Struct("<" + "".join({1: "B", 2: "H", 4: "I", 8: "Q"}[f.width] for f, _, _ in fields)) for k, fields in SINGLE.items()}
 
 
 class Refusal(NamedTuple):
@@ -56,7 +58,7 @@ class Walked:
     def take(self, width, section=0, record=-1, name="count"):
         raw = self.data[self.at : self.at + width]
         if len(raw) < width:
-            self.refuse(2, self.at, section, record, name, f"has {width} bytes, of which {bytes_said(len(raw))} there")
+            self.refuse(2, self.at, section, record, name, f"has {width} byte{'s' * (width > 1)}, of which {bytes_said(len(raw))} there")
             raise EndsEarly
         self.at += width
         return int.from_bytes(raw, "little")
@@ -94,9 +96,17 @@ class Walked:
     def walk_record(self, s, table, i, boxes):
         r = Record(self.at, boxes)
         table.records.append(r)
-        for f, name, value, allowed in judged(s, r, lambda f, name: self.take(f.width, s.number, i, name), self.blas_kind, self.count_of):
+        for f, at, name, value, allowed in judged(s, r, self.values(s, i), self.blas_kind, self.count_of):
             if not allowed:
-                self.refuse(5, self.at - f.width, s.number, i, name, f"is {value}, may be {allowed_words(f, self.count_of)}")
+                self.refuse(5, r.place + at, s.number, i, name, f"is {value}, may be {allowed_words(f, self.count_of)}")
+
+    def values(self, s, i):
+        """A record's numbers: at once where all of it is there, else one by one."""
+        whole = WHOLE[s.number]
+        if self.at + whole.size > len(self.data):
+            return (self.take(f.width, s.number, i, name) for f, _, name in SINGLE[s.number])
+        self.at += whole.size
+        return whole.unpack_from(self.data, self.at - whole.size)
 
     def count_of(self, number):
         return self.tables[number - 1].count
@@ -114,14 +124,14 @@ def bytes_said(n):
     return f"{n} byte is" if n == 1 else f"{n} bytes are"
 
 
-def judged(s, r, take, blas_kind, count_of):
-    """The fields of a record in turn, as (field, name, value, whether it may have that value); r is filled with them."""
-    for f, _, name in SINGLE[s.number]:
-        value = r.values[name] = take(f, name)
-        used = is_used(f, r.values, r.boxes)
+def judged(s, r, values, blas_kind, count_of):
+    """The fields of a record in turn, as (field, place in it, name, value, whether it may have that value); r is filled with them."""
+    for (f, at, name), value in zip(SINGLE[s.number], values):
+        r.values[name] = value
+        used = not f.used or is_used(f, r.values, r.boxes)
         if not used:
             r.unused.add(name)
-        yield f, name, value, not used or allows(f, value, count_of)
+        yield f, at, name, value, not used or allows(f, value, count_of)
         if s.kind == name:
             r.boxes = blas_kind(value) == 1
 

@@ -7,7 +7,7 @@ sys.path.insert(0, str(pathlib.Path(__file__).resolve().parent.parent / "format"
 
 from layout import LIMITS, NONE, SECTIONS, SIZES, single  # noqa: E402, F401
 from refusals import CAUSES  # noqa: E402, F401
-from walk import Record, Walked, judged  # noqa: E402
+from walk import WHOLE, Record, Walked, judged  # noqa: E402
 
 
 def read(data):
@@ -21,12 +21,6 @@ def read(data):
 
 def record_fits(section, raw, boxes, blas_kinds):
     """Whether a whole record of a lent table has only values that its fields may have."""
-    at = 0
-
-    def take(f, _):
-        nonlocal at
-        at += f.width
-        return int.from_bytes(raw[at - f.width : at], "little")
-
-    r = Record(0, boxes)
-    return all(ok for *_, ok in judged(SECTIONS[section - 1], r, take, lambda i: blas_kinds[i] if i < len(blas_kinds) else 0, lambda _: len(blas_kinds)))
+    values = WHOLE[section].unpack(raw)
+    judging = judged(SECTIONS[section - 1], Record(0, boxes), values, lambda i: blas_kinds[i] if i < len(blas_kinds) else 0, lambda _: len(blas_kinds))
+    return all(allowed for *_, allowed in judging)
