@@ -239,6 +239,7 @@ def rust_layout():
         yield f"        number: {s.number},"
         yield f'        name: "{s.name}",'
         yield f'        one: "{s.one}",'
+        yield f'        counted: "count of {s.name}",'
         yield f"        most: MOST_{s.name.upper()},"
         yield f"        bytes: {s.one.upper()}_BYTES,"
         yield f"        drawn_by: {s.drawn_by},"

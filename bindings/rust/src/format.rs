@@ -10,6 +10,8 @@ pub struct Section {
     pub name: &'static str,
     /// of one record
     pub one: &'static str,
+    /// of its count
+    pub counted: &'static str,
     /// how many records it may have
     pub most: usize,
     /// of one record

@@ -27,6 +27,10 @@ pub enum Misfit {
         at: At,
         /// the field's name
         field: &'static str,
+        /// of the field
+        width: usize,
+        /// of these are there
+        there: usize,
     },
     /// Bytes after a sheet.
     #[non_exhaustive]
@@ -36,7 +40,7 @@ pub enum Misfit {
         /// how many there are
         bytes: u64,
     },
-    /// More records than a table may have.
+    /// More than there may be.
     #[non_exhaustive]
     TooMany {
         /// where it stands
@@ -80,6 +84,16 @@ pub enum Misfit {
         /// how many there are, of four
         cells: usize,
     },
+    /// Lists of an action that go past what is lent.
+    #[non_exhaustive]
+    PastLists {
+        /// where it stands
+        at: At,
+        /// the cell after them
+        end: u64,
+        /// how many are lent
+        cells: u64,
+    },
     /// An id outside its table.
     #[non_exhaustive]
     Id {
@@ -89,8 +103,8 @@ pub enum Misfit {
         field: &'static str,
         /// the id
         id: u64,
-        /// the name of its table
-        table: &'static str,
+        /// its table
+        of: &'static Section,
         /// how many records that has
         records: u64,
     },
@@ -102,8 +116,10 @@ pub enum Misfit {
 pub enum At {
     /// among a call's own arguments
     Call,
-    /// a byte of a sheet, and what it belongs to: its head, a section's count, or a record of a section, by its name
-    Byte(u64, Option<(&'static str, Option<usize>)>),
+    /// a byte of a sheet, and the record that it belongs to, by its section's name for one and its number
+    Byte(u64, Option<(&'static str, usize)>),
+    /// a lent table, by its section
+    Section(usize),
     /// a record of a lent table, by section and number
     Record(usize, usize),
     /// an entry
@@ -126,28 +142,28 @@ pub enum At {
 #[derive(Clone, Copy, Debug, PartialEq, Eq)]
 #[non_exhaustive]
 pub enum May {
-    /// one of its own values
-    Be(Allowed),
-    /// an id of a table that has so many records
-    Name(&'static str, usize),
-    /// any number up to this
-    UpTo(u64),
+    /// these two and all between
+    Range(u64, u64),
+    /// one of these
+    OneOf(&'static [u64]),
+    /// nothing: the table of that name has no record
+    Nothing(&'static str),
 }
 
 /// A field's name as words.
-struct Words(&'static str);
+fn words(name: &str) -> String {
+    name.replace('_', " ")
+}
 
-impl fmt::Display for Words {
+/// So many bytes.
+struct Bytes(u64);
+
+impl fmt::Display for Bytes {
     fn fmt(&self, f: &mut fmt::Formatter) -> fmt::Result {
-        for (i, word) in self.0.split('_').enumerate() {
-            f.write_str(if i > 0 { " " } else { "" })?;
-            f.write_str(match word {
-                "blas" => "Blas",
-                "tlas" => "Tlas",
-                _ => word,
-            })?;
+        match self.0 {
+            1 => f.write_str("1 byte is"),
+            n => write!(f, "{n} bytes are"),
         }
-        Ok(())
     }
 }
 
@@ -156,16 +172,16 @@ impl fmt::Display for At {
         match *self {
             At::Call => Ok(()),
             At::Byte(place, None) => write!(f, "byte {place}: "),
-            At::Byte(place, Some((name, None))) => write!(f, "byte {place}: {name}, "),
-            At::Byte(place, Some((name, Some(record)))) => write!(f, "byte {place}: {} {record}, ", Words(name)),
+            At::Byte(place, Some((one, record))) => write!(f, "byte {place}: {one} {record}, "),
+            At::Section(section) => write!(f, "section {section}: "),
             At::Record(section, record) => write!(f, "section {section}, record {record}: "),
             At::Entry(entry) => write!(f, "entry {entry}: "),
             At::Geometry(entry, geometry) => write!(f, "entry {entry}, geometry {geometry}: "),
             At::Package(package) => write!(f, "package {package}: "),
             At::Slot(package, slot) => write!(f, "package {package}, slot {slot}: "),
-            At::Start(tlas) => write!(f, "starting list of Tlas {tlas}: "),
+            At::Start(tlas) => write!(f, "starting list of tlas {tlas}: "),
             At::Action(action) => write!(f, "action {action}: "),
-            At::Listed(action, tlas) => write!(f, "action {action}, list of its Tlas {tlas}: "),
+            At::Listed(action, tlas) => write!(f, "action {action}, list of its tlas {tlas}: "),
         }
     }
 }
@@ -173,19 +189,13 @@ impl fmt::Display for At {
 impl fmt::Display for May {
     fn fmt(&self, f: &mut fmt::Formatter) -> fmt::Result {
         match *self {
-            May::Be(Allowed::Any | Allowed::Inside(_)) => f.write_str("be any"),
-            May::Be(Allowed::Range(least, most)) => write!(f, "be {least} to {most}"),
-            May::Be(Allowed::AtLeast(least)) => write!(f, "be {least} or more"),
-            May::Be(Allowed::Except(n)) => write!(f, "be any but {n}"),
-            May::Be(Allowed::OneOf(values)) => {
-                f.write_str("be ")?;
+            May::Range(least, most) if least == most => write!(f, "{least} only"),
+            May::Range(least, most) if most.checked_sub(least) == Some(1) => write!(f, "{least} or {most}"),
+            May::Range(least, most) => write!(f, "{least} to {most}"),
+            May::OneOf(values) => {
                 values.iter().enumerate().try_for_each(|(i, v)| write!(f, "{}{v}", if i > 0 { " or " } else { "" }))
             }
-            May::Name(table, records) => match records.checked_sub(1) {
-                Some(last) => write!(f, "be 0 to {last}"),
-                None => write!(f, "be none: {table} has 0"),
-            },
-            May::UpTo(most) => write!(f, "be 0 to {most}"),
+            May::Nothing(table) => write!(f, "nothing, as there are no {table}"),
         }
     }
 }
@@ -193,14 +203,26 @@ impl fmt::Display for May {
 impl fmt::Display for Misfit {
     fn fmt(&self, f: &mut fmt::Formatter) -> fmt::Result {
         match *self {
-            Misfit::Value { at, field, value, may } => write!(f, "{at}{} is {value}, may {may}", Words(field)),
-            Misfit::NotWhole { at, field } => write!(f, "{at}{} is not whole", Words(field)),
-            Misfit::LeftOver { byte, bytes } => write!(f, "byte {byte}: {bytes} left over"),
-            Misfit::TooMany { at, what, count, most } => write!(f, "{at}{count} {what}, may be 0 to {most}"),
-            Misfit::Drawn { at, table, count, by, drawn } => write!(f, "{at}{count} {table}, {by} draw {drawn}"),
-            Misfit::PartRecord { at, bytes, whole } => write!(f, "{at}{bytes} bytes, a record has {whole}"),
-            Misfit::PartAction { at, cells } => write!(f, "{at}{cells} cells, an action has 4"),
-            Misfit::Id { at, field, id, table, records } => write!(f, "{at}{} {id}, {table} has {records}", Words(field)),
+            Misfit::Value { at, field, value, may } => write!(f, "{at}{} is {value}, may be {may}", words(field)),
+            Misfit::NotWhole { at, field, width, there } => {
+                write!(f, "{at}{} has {width} bytes, of which {} there", words(field), Bytes(wide(there)))
+            }
+            Misfit::LeftOver { byte, bytes } => write!(f, "byte {byte}: {} after the sheet's end", Bytes(bytes)),
+            Misfit::TooMany { at, what, count, most } => write!(f, "{at}count of {what} is {count}, may be 0 to {most}"),
+            Misfit::Drawn { at, table, count, by, drawn } => write!(f, "{at}count of {table} is {count}, the {by} draw {drawn}"),
+            Misfit::PartRecord { at, bytes, whole } => {
+                write!(f, "{at}a record has {whole} bytes, of which {} there", Bytes(wide(bytes)))
+            }
+            Misfit::PartAction { at, cells } => write!(f, "{at}an action has 4 cells, of which {cells} are there"),
+            Misfit::PastLists { at, end, cells } => write!(f, "{at}its lists end before cell {end}, {cells} cells are lent"),
+            Misfit::Id { at, field, id, of, records } => {
+                write!(f, "{at}{} is {id}, ", words(field))?;
+                match records {
+                    0 => write!(f, "there are no {}", of.name),
+                    1 => write!(f, "there is 1 {}", of.one),
+                    n => write!(f, "there are {n} {}", of.name),
+                }
+            }
         }
     }
 }
@@ -229,11 +251,24 @@ impl Seen<'_> {
             Allowed::Except(n) => value != n,
             Allowed::Inside(k) => value < wide((self.count)(k)),
         };
-        let may = match field.allowed {
-            Allowed::Inside(k) => May::Name(section(k).map_or("", |s| s.name), (self.count)(k)),
-            allowed => May::Be(allowed),
-        };
-        (!fits).then_some(may)
+        (!fits).then(|| self.may(field))
+    }
+
+    /// What a value of the field may be.
+    fn may(&self, field: &Field) -> May {
+        let top =
+            u64::MAX.checked_shr(64_u32.saturating_sub(8_u32.saturating_mul(field.width.try_into().unwrap_or(8)))).unwrap_or(0);
+        match field.allowed {
+            Allowed::Any => May::Range(0, top),
+            Allowed::Range(least, most) => May::Range(least, most),
+            Allowed::AtLeast(least) => May::Range(least, top),
+            Allowed::OneOf(values) => May::OneOf(values),
+            Allowed::Except(n) => May::Range(0, n.saturating_sub(1)),
+            Allowed::Inside(k) => match (self.count)(k).checked_sub(1) {
+                Some(last) => May::Range(0, wide(last)),
+                None => May::Nothing(section(k).map_or("", |s| s.name)),
+            },
+        }
     }
 
     /// The first field of a record that is used and has a value that it may not have.
@@ -293,11 +328,11 @@ impl Tables<'_> {
     pub(crate) fn misfit(&self, refused: u64, [number, record]: [u64; 2]) -> Option<Misfit> {
         let (number, record) = (usize::try_from(number).ok()?, usize::try_from(record).ok()?);
         if number == 0 && refused == 5 {
-            let may = May::Be(Allowed::AtLeast(1));
+            let may = May::Range(1, u32::MAX.into());
             return Some(Misfit::Value { at: At::Call, field: "alignment", value: 0, may });
         }
         let s = section(number)?;
-        let (at, count) = (At::Record(number, record), s.count(self.table(number)));
+        let (at, count) = (At::Section(number), s.count(self.table(number)));
         if refused == 4 {
             return Some(Misfit::TooMany { at, what: s.name, count: wide(count), most: wide(s.most) });
         }
@@ -309,7 +344,7 @@ impl Tables<'_> {
         }
         if record == count {
             let bytes = self.table(number).len().saturating_sub(count.saturating_mul(s.bytes));
-            return Some(Misfit::PartRecord { at, bytes, whole: s.bytes });
+            return Some(Misfit::PartRecord { at: At::Record(number, record), bytes, whole: s.bytes });
         }
         self.misfit_of_record(s, record)
     }
@@ -353,7 +388,7 @@ impl Tables<'_> {
     pub(crate) fn outside(&self, at: At, field: &'static str, id: u64, names: usize) -> Option<Misfit> {
         let of = section(names)?;
         let records = wide(of.count(self.table(names)));
-        (id >= records).then_some(Misfit::Id { at, field, id, table: of.name, records })
+        (id >= records).then_some(Misfit::Id { at, field, id, of, records })
     }
 }
 
@@ -380,9 +415,9 @@ impl<'a> Walk<'a> {
             let bytes = self.sheet.len().saturating_sub(self.place);
             return Some(Misfit::LeftOver { byte: wide(self.place), bytes: wide(bytes) });
         }
-        let (one, some) = (Allowed::OneOf(&[1]), Allowed::AtLeast(1));
-        for (field, width, may) in [("version", 1, one), ("alignment", 4, some), ("counter", 8, Allowed::Any)] {
-            if let Some(misfit) = self.field(field, width, None, May::Be(may)) {
+        let (version, alignment) = (May::OneOf(&[1]), May::Range(1, u32::MAX.into()));
+        for (field, width, may) in [("version", 1, version), ("alignment", 4, alignment), ("counter", 8, May::Range(0, u64::MAX))] {
+            if let Some(misfit) = self.field(field, width, None, may) {
                 return Some(misfit);
             }
         }
@@ -390,14 +425,14 @@ impl<'a> Walk<'a> {
     }
 
     /// The field that begins here, if it begins at the refused byte; else it is gone over.
-    fn field(&mut self, name: &'static str, width: usize, of: Option<(&'static str, Option<usize>)>, may: May) -> Option<Misfit> {
+    fn field(&mut self, name: &'static str, width: usize, of: Option<(&'static str, usize)>, may: May) -> Option<Misfit> {
         let (start, at) = (self.at, At::Byte(wide(self.at), of));
         self.at = self.at.saturating_add(width);
         if start != self.place {
             return None;
         }
         Some(match self.bytes(start, width) {
-            None => Misfit::NotWhole { at, field: name },
+            None => Misfit::NotWhole { at, field: name, width, there: self.sheet.len().saturating_sub(start) },
             Some(bytes) => Misfit::Value { at, field: name, value: number(bytes), may },
         })
     }
@@ -405,16 +440,13 @@ impl<'a> Walk<'a> {
     /// A section's count and its records.
     fn section(&mut self, s: &'static Section) -> Option<Misfit> {
         let start = self.at;
-        let found = self.field("count", 2, Some((s.name, None)), May::UpTo(wide(s.most)));
+        let found = self.field(s.counted, 2, None, May::Range(0, wide(s.most)));
         let count = usize::try_from(number(self.bytes(start, 2).unwrap_or(&[]))).unwrap_or(usize::MAX);
-        if let Some(Misfit::Value { at, .. }) = found {
-            return Some(match section(s.drawn_by) {
-                Some(by) if count <= s.most => {
-                    let drawn = self.tables.drawn(by).fold(0, usize::saturating_add);
-                    Misfit::Drawn { at, table: s.name, count: wide(count), by: by.name, drawn: wide(drawn) }
-                }
-                _ => found?,
-            });
+        if let (Some(Misfit::Value { at, .. }), Some(by)) = (&found, section(s.drawn_by))
+            && count <= s.most
+        {
+            let drawn = self.tables.drawn(by).fold(0, usize::saturating_add);
+            return Some(Misfit::Drawn { at: *at, table: s.name, count: wide(count), by: by.name, drawn: wide(drawn) });
         }
         if found.is_some() {
             return found;
@@ -433,10 +465,6 @@ impl<'a> Walk<'a> {
         let known = self.tables;
         let count = |k: usize| section(k).map_or(0, |s| s.count(known.table(k)));
         let seen = Seen { boxes: known.is_boxes(s, record), count: &count };
-        s.fields.iter().find_map(|f| {
-            let value = self.bytes(self.at, f.width).map(number).unwrap_or(0);
-            let may = seen.refuses(f, value).unwrap_or(May::Be(f.allowed));
-            self.field(f.name, f.width, Some((s.one, Some(record))), may)
-        })
+        s.fields.iter().find_map(|f| self.field(f.name, f.width, Some((s.one, record)), seen.may(f)))
     }
 }

@@ -1,6 +1,6 @@
 //! Ids and records, to tables and back.
 use crate::building::Tables;
-use crate::format::{Allowed, section};
+use crate::format::section;
 use crate::layout::NO_BUFFER;
 use crate::misfit::{At, May, Misfit};
 
@@ -421,7 +421,7 @@ fn buffer_or_none(field: &'static str, id: Option<BufferId>, record: usize) -> R
             at: At::Record(BlasGeometry::SECTION, record),
             field,
             value: NO_BUFFER.into(),
-            may: May::Be(Allowed::Range(0, u64::from(NO_BUFFER).saturating_sub(1))),
+            may: May::Range(0, u64::from(NO_BUFFER).saturating_sub(1)),
         }),
         Some(BufferId(id)) => Ok(id),
     }

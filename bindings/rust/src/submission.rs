@@ -57,7 +57,7 @@ impl Actions {
         let mut lists: Vec<u16> = blases.iter().map(|b| b.0).collect();
         for (n, (tlas, dependencies)) in tlases.iter().enumerate() {
             let at = At::Listed(self.count(), n);
-            lists.extend([tlas.0, cell("Blases of a Tlas", dependencies.len(), u16::MAX.into(), at)?]);
+            lists.extend([tlas.0, cell("blases", dependencies.len(), u16::MAX.into(), at)?]);
             lists.extend(dependencies.iter().map(|b| b.0));
         }
         self.listed(blases.len(), tlases.len(), &lists)
@@ -70,7 +70,7 @@ impl Actions {
             at: At::Action(self.count()),
             field: "lists",
             value: wide(lists.len()),
-            may: May::Be(crate::Allowed::AtLeast(wide(w.lists))),
+            may: May::Range(wide(w.lists), u64::MAX),
         })?;
         self.listed(w.blas_offsets, w.tlas_offsets, written)
     }
@@ -78,8 +78,8 @@ impl Actions {
     fn listed(&mut self, blases: usize, tlases: usize, lists: &[u16]) -> Result<(), Misfit> {
         let at = At::Action(self.count());
         let start = cell("cells of lists", self.lists.len(), u32::MAX.into(), at)?;
-        let blases = cell("Blases", blases, u32::MAX.into(), at)?;
-        let tlases = cell("Tlases", tlases, u32::MAX.into(), at)?;
+        let blases = cell("blases", blases, u32::MAX.into(), at)?;
+        let tlases = cell("tlases", tlases, u32::MAX.into(), at)?;
         self.actions.extend([BUILD, start, blases, tlases]);
         self.lists.extend_from_slice(lists);
         Ok(())
@@ -251,7 +251,7 @@ impl Judged<'_> {
         self.lent.dependency_counts.iter().zip(rooms).take(tlases).enumerate().find_map(|(t, (count, room))| {
             let (at, most) = (At::Start(t), wide(DEPENDENCY_ROOM));
             match self.number {
-                4 if u64::from(*count) > most => Some(Misfit::TooMany { at, what: "Blases", count: (*count).into(), most }),
+                4 if u64::from(*count) > most => Some(Misfit::TooMany { at, what: "blases", count: (*count).into(), most }),
                 6 => room.iter().take((*count).into()).find_map(|b| tables.outside(at, "blas", (*b).into(), 2)),
                 _ => None,
             }
@@ -268,9 +268,9 @@ impl Judged<'_> {
         };
         match (self.number, kind) {
             (5, BUILD) => self.past(at, operand, blases, tlases),
-            (5, _) => Some(Misfit::Value { at, field: "kind", value: kind.into(), may: May::Be(crate::Allowed::Range(1, 4)) }),
-            (6, USE_TLAS | MARK_TLAS) => tables.outside(at, "tlas", operand.into(), 4),
-            (6, MARK_BLAS) => tables.outside(at, "blas", operand.into(), 2),
+            (5, _) => Some(Misfit::Value { at, field: "kind", value: kind.into(), may: May::Range(1, 4) }),
+            (6, USE_TLAS | MARK_TLAS) => tables.outside(at, "its tlas", operand.into(), 4),
+            (6, MARK_BLAS) => tables.outside(at, "its blas", operand.into(), 2),
             (4 | 6, BUILD) => self.build(action, operand, blases, tlases),
             _ => None,
         }
@@ -287,7 +287,7 @@ impl Judged<'_> {
             let count = past.checked_add(1).and_then(|i| self.actions.lists.get(usize::try_from(i).ok()?)).copied();
             past = past.saturating_add(2).saturating_add(count.unwrap_or(0).into());
         }
-        (past > most).then_some(Misfit::TooMany { at, what: "cells of lists", count: past, most })
+        (past > most).then_some(Misfit::PastLists { at, end: past, cells: most })
     }
 
     /// A Build's lists: too long, or an id outside its table.
@@ -295,7 +295,7 @@ impl Judged<'_> {
         let (at, tables) = (At::Action(action), self.tables());
         if self.number == 4 {
             let [most_blases, most_tlases] = MOST_LISTED;
-            for (what, count, most) in [("Blases", blases, most_blases), ("Tlases", tlases, most_tlases)] {
+            for (what, count, most) in [("blases", blases, most_blases), ("tlases", tlases, most_tlases)] {
                 if u64::from(count) > most {
                     return Some(Misfit::TooMany { at, what, count: count.into(), most });
                 }
@@ -314,7 +314,7 @@ impl Judged<'_> {
             if self.number == 4 {
                 cells.by_ref().take(count.into()).for_each(drop);
                 let above = u64::from(count) > most;
-                return above.then_some(Misfit::TooMany { at: listed, what: "Blases", count: count.into(), most });
+                return above.then_some(Misfit::TooMany { at: listed, what: "blases", count: count.into(), most });
             }
             let mut dependencies = cells.by_ref().take(count.into());
             let found = tables

@@ -77,7 +77,7 @@ fn a_list_that_is_too_long_for_its_count_is_said() {
     actions.use_tlas(TlasId(0));
     let before = actions.clone();
     let misfit = actions.build(&[], &[(TlasId(0), &ids)]).unwrap_err();
-    assert_eq!(misfit.to_string(), "action 1, list of its Tlas 0: 65537 Blases of a Tlas, may be 0 to 65535");
+    assert_eq!(misfit.to_string(), "action 1, list of its tlas 0: count of blases is 65537, may be 0 to 65535");
     assert_eq!(actions, before);
     // 513 have room in the cells, and are the library's to refuse
     actions.build(&[], &[(TlasId(0), &ids[..513])]).unwrap();
@@ -89,7 +89,7 @@ fn a_list_that_is_too_long_for_its_count_is_said() {
     let mut indices = CommandIndices { next_acceleration_structure_build_command_index: 5, ..Default::default() };
     let refused = validate_acceleration_structure_actions(&mut indices, lent, &only).unwrap_err();
     assert_eq!(refused.number, 4);
-    assert_eq!(refused.misfit.unwrap().to_string(), "action 0, list of its Tlas 0: 513 Blases, may be 0 to 512");
+    assert_eq!(refused.misfit.unwrap().to_string(), "action 0, list of its tlas 0: count of blases is 513, may be 0 to 512");
 }
 
 #[test]
@@ -119,14 +119,17 @@ fn no_section_number_panics() {
 
 #[test]
 fn ids_are_named() {
-    assert_eq!(World::with(6, 0, "buffer", 77), (6, "entry 0, geometry 0: buffer 77, buffers has 4".into()));
-    assert_eq!(World::with(6, 0, "index_buffer", 99), (6, "entry 0, geometry 0: index buffer 99, buffers has 4".into()));
-    assert_eq!(World::with(6, 0, "transform_buffer", 4), (6, "entry 0, geometry 0: transform buffer 4, buffers has 4".into()));
-    assert_eq!(World::with(6, 1, "buffer", 4), (6, "entry 1, geometry 0: buffer 4, buffers has 4".into()));
-    assert_eq!(World::with(5, 1, "blas", 2), (6, "entry 1: Blas 2, blases has 2".into()));
-    assert_eq!(World::with(8, 0, "blas", 7), (6, "package 0, slot 0: Blas 7, blases has 2".into()));
-    assert_eq!(World::with(8, 2, "blas", 7), (6, "package 0, slot 2: Blas 7, blases has 2".into()));
-    assert_eq!(World::with(7, 0, "tlas", 1), (6, "package 0: Tlas 1, tlases has 1".into()));
+    assert_eq!(World::with(6, 0, "buffer", 77), (6, "entry 0, geometry 0: buffer is 77, there are 4 buffers".into()));
+    assert_eq!(World::with(6, 0, "index_buffer", 99), (6, "entry 0, geometry 0: index buffer is 99, there are 4 buffers".into()));
+    assert_eq!(
+        World::with(6, 0, "transform_buffer", 4),
+        (6, "entry 0, geometry 0: transform buffer is 4, there are 4 buffers".into())
+    );
+    assert_eq!(World::with(6, 1, "buffer", 4), (6, "entry 1, geometry 0: buffer is 4, there are 4 buffers".into()));
+    assert_eq!(World::with(5, 1, "blas", 2), (6, "entry 1: blas is 2, there are 2 blases".into()));
+    assert_eq!(World::with(8, 0, "blas", 7), (6, "package 0, slot 0: blas is 7, there are 2 blases".into()));
+    assert_eq!(World::with(8, 2, "blas", 7), (6, "package 0, slot 2: blas is 7, there are 2 blases".into()));
+    assert_eq!(World::with(7, 0, "tlas", 1), (6, "package 0: tlas is 1, there is 1 tlas".into()));
 }
 
 #[test]
@@ -138,41 +141,41 @@ fn ids_of_an_append_are_named() {
         let refused = append_instance(t.tlases, t.blases, TlasId(tlas), &instance, &mut [0; 128], 64).unwrap_err();
         (refused.number, refused.used, refused.misfit.unwrap().to_string())
     };
-    assert_eq!(append(3, 0), (6, 64, "Tlas 3, tlases has 1".into()));
-    assert_eq!(append(0, 9), (6, 64, "Blas 9, blases has 2".into()));
+    assert_eq!(append(3, 0), (6, 64, "tlas is 3, there is 1 tlas".into()));
+    assert_eq!(append(0, 9), (6, 64, "blas is 9, there are 2 blases".into()));
 }
 
 #[test]
 fn fields_are_named() {
     assert_eq!(World::with(1, 0, "marks", 9), (5, "section 1, record 0: marks is 9, may be 0 to 3".into()));
     assert_eq!(World::with(2, 1, "state", 4), (5, "section 2, record 1: state is 4, may be 0 to 3".into()));
-    assert_eq!(World::with(3, 0, "blas", 2), (5, "section 3, record 0: Blas is 2, may be 0 to 1".into()));
+    assert_eq!(World::with(3, 0, "blas", 2), (5, "section 3, record 0: blas is 2, may be 0 or 1".into()));
     assert_eq!(
         World::with(3, 0, "stride_alignment", 0),
-        (5, "section 3, record 0: stride alignment is 0, may be 1 or more".into())
+        (5, "section 3, record 0: stride alignment is 0, may be 1 to 65535".into())
     );
     assert_eq!(World::with(4, 0, "flags", 1), (5, "section 4, record 0: flags is 1, may be 0 or 2".into()));
-    assert_eq!(World::with(6, 1, "buffer", 65535), (5, "section 6, record 1: buffer is 65535, may be any but 65535".into()));
+    assert_eq!(World::with(6, 1, "buffer", 65535), (5, "section 6, record 1: buffer is 65535, may be 0 to 65534".into()));
     assert_eq!(
         World::with(6, 0, "first_index_present", 2),
-        (5, "section 6, record 0: first index present is 2, may be 0 to 1".into())
+        (5, "section 6, record 0: first index present is 2, may be 0 or 1".into())
     );
-    assert_eq!(World::with(5, 0, "geometry_count", 2), (5, "section 6, record 0: 2 geometries, entries draw 3".into()));
-    assert_eq!(World::with(7, 0, "slot_count", 65535), (5, "section 8, record 0: 3 slots, packages draw 65535".into()));
+    assert_eq!(World::with(5, 0, "geometry_count", 2), (5, "section 6: count of geometries is 2, the entries draw 3".into()));
+    assert_eq!(World::with(7, 0, "slot_count", 65535), (5, "section 8: count of slots is 3, the packages draw 65535".into()));
 
     let mut world = World::new();
     world.tables[0].extend([0; 5]);
     let refused = world.build().unwrap_err();
-    assert_eq!(refused.misfit.unwrap().to_string(), "section 1, record 4: 5 bytes, a record has 9");
+    assert_eq!(refused.misfit.unwrap().to_string(), "section 1, record 4: a record has 9 bytes, of which 5 bytes are there");
     let mut world = World::new();
     world.tables[0] = table(&[Buffer::default(); 257]).unwrap();
     let refused = world.build().unwrap_err();
     assert_eq!(
         (refused.number, refused.misfit.unwrap().to_string()),
-        (4, "section 1, record 0: 257 buffers, may be 0 to 256".into())
+        (4, "section 1: count of buffers is 257, may be 0 to 256".into())
     );
     let refused = build_acceleration_structures(0, &Tables::default(), LentOutputs::default()).unwrap_err();
-    assert_eq!(refused.misfit.unwrap().to_string(), "alignment is 0, may be 1 or more");
+    assert_eq!(refused.misfit.unwrap().to_string(), "alignment is 0, may be 1 to 4294967295");
 }
 
 #[test]
@@ -264,7 +267,7 @@ fn records_read_back_are_the_same() {
     // a value that a record can't have is named
     let blases = [9; 28];
     let misfit = Tables { blases: &blases, ..Default::default() }.records::<Blas>().unwrap_err();
-    assert_eq!(misfit.to_string(), "section 2, record 0: kind is 9, may be 0 to 1");
+    assert_eq!(misfit.to_string(), "section 2, record 0: kind is 9, may be 0 or 1");
 }
 
 #[test]
@@ -296,17 +299,17 @@ fn refused_sheets_are_named() {
         named(&changed)
     };
     assert_eq!(with(0, 7), (1, "byte 0: version is 7, may be 1".into()));
-    assert_eq!(named(&sheet[..20]), (2, "byte 15: buffer 0, size is not whole".into()));
-    assert_eq!(named(&[&sheet[..], &[1, 2]].concat()), (3, format!("byte {}: 2 left over", sheet.len())));
-    assert_eq!(with(14, 9), (4, "byte 13: buffers, count is 2305, may be 0 to 256".into()));
+    assert_eq!(named(&sheet[..20]), (2, "byte 15: buffer 0, size has 8 bytes, of which 5 bytes are there".into()));
+    assert_eq!(named(&[&sheet[..], &[1, 2]].concat()), (3, format!("byte {}: 2 bytes are after the sheet's end", sheet.len())));
+    assert_eq!(with(14, 9), (4, "byte 13: count of buffers is 2305, may be 0 to 256".into()));
     assert_eq!(with(23, 9), (5, "byte 23: buffer 0, marks is 9, may be 0 to 3".into()));
-    assert_eq!(with(2, 0), (5, "byte 1: alignment is 0, may be 1 or more".into()));
+    assert_eq!(with(2, 0), (5, "byte 1: alignment is 0, may be 1 to 4294967295".into()));
     // one declared geometry of a Blas that isn't there
     let declared = 15 + 9 + 2 + 28 + 2;
-    assert_eq!(with(declared, 1), (5, format!("byte {declared}: declared 0, Blas is 1, may be 0 to 0")));
+    assert_eq!(with(declared, 1), (5, format!("byte {declared}: declared 0, blas is 1, may be 0 only")));
     // an entry that draws two
     let entry = declared + 18 + 2 + 22 + 2;
-    assert_eq!(with(entry + 3, 2), (5, format!("byte {}: geometries, 1 geometries, entries draw 2", entry + 5)));
+    assert_eq!(with(entry + 3, 2), (5, format!("byte {}: count of geometries is 1, the entries draw 2", entry + 5)));
 }
 
 #[test]
@@ -325,26 +328,32 @@ fn refused_actions_are_named() {
         make(&mut actions);
         fresh(&actions)
     };
-    assert_eq!(made(&|a| a.use_tlas(TlasId(9))), (6, 1, "action 1: Tlas 9, tlases has 1".into()));
-    assert_eq!(made(&|a| a.mark_tlas(TlasId(9))), (6, 1, "action 1: Tlas 9, tlases has 1".into()));
-    assert_eq!(made(&|a| a.mark_blas(BlasId(9))), (6, 1, "action 1: Blas 9, blases has 2".into()));
-    assert_eq!(made(&|a| a.build(&[BlasId(1), BlasId(2)], &[]).unwrap()), (6, 1, "action 1: Blas 2, blases has 2".into()));
+    assert_eq!(made(&|a| a.use_tlas(TlasId(9))), (6, 1, "action 1: its tlas is 9, there is 1 tlas".into()));
+    assert_eq!(made(&|a| a.mark_tlas(TlasId(9))), (6, 1, "action 1: its tlas is 9, there is 1 tlas".into()));
+    assert_eq!(made(&|a| a.mark_blas(BlasId(9))), (6, 1, "action 1: its blas is 9, there are 2 blases".into()));
+    assert_eq!(made(&|a| a.build(&[BlasId(1), BlasId(2)], &[]).unwrap()), (6, 1, "action 1: blas is 2, there are 2 blases".into()));
     assert_eq!(
         made(&|a| a.build(&[], &[(TlasId(0), &[]), (TlasId(3), &[])]).unwrap()),
-        (6, 1, "action 1: Tlas 3, tlases has 1".into())
+        (6, 1, "action 1: tlas is 3, there is 1 tlas".into())
     );
     assert_eq!(
         made(&|a| a.build(&[BlasId(0)], &[(TlasId(0), &[BlasId(0)]), (TlasId(0), &[BlasId(1), BlasId(5)])]).unwrap()),
-        (6, 1, "action 1, list of its Tlas 1: Blas 5, blases has 2".into())
+        (6, 1, "action 1, list of its tlas 1: blas is 5, there are 2 blases".into())
     );
-    assert_eq!(made(&|a| a.build(&[BlasId(0); 65], &[]).unwrap()), (4, 1, "action 1: 65 Blases, may be 0 to 64".into()));
+    assert_eq!(
+        made(&|a| a.build(&[BlasId(0); 65], &[]).unwrap()),
+        (4, 1, "action 1: count of blases is 65, may be 0 to 64".into())
+    );
     assert_eq!(made(&|a| a.actions.extend([7, 0, 0, 0])), (5, 1, "action 1: kind is 7, may be 1 to 4".into()));
-    assert_eq!(made(&|a| a.actions.extend([2, 0])), (5, 1, "action 1: 2 cells, an action has 4".into()));
-    assert_eq!(made(&|a| a.actions.extend([1, 0, 1, 0])), (5, 1, "action 1: 1 cells of lists, may be 0 to 0".into()));
+    assert_eq!(made(&|a| a.actions.extend([2, 0])), (5, 1, "action 1: an action has 4 cells, of which 2 are there".into()));
+    assert_eq!(made(&|a| a.actions.extend([1, 0, 1, 0])), (5, 1, "action 1: its lists end before cell 1, 0 cells are lent".into()));
     // the start
     let none = Actions::default();
-    assert_eq!(submit(&none, &mut [1], &mut [8; 512]), (6, 0, "starting list of Tlas 0: Blas 8, blases has 2".into()));
-    assert_eq!(submit(&none, &mut [513], &mut [0; 512]), (4, 0, "starting list of Tlas 0: 513 Blases, may be 0 to 512".into()));
+    assert_eq!(submit(&none, &mut [1], &mut [8; 512]), (6, 0, "starting list of tlas 0: blas is 8, there are 2 blases".into()));
+    assert_eq!(
+        submit(&none, &mut [513], &mut [0; 512]),
+        (4, 0, "starting list of tlas 0: count of blases is 513, may be 0 to 512".into())
+    );
     assert_eq!(submit(&none, &mut [0], &mut [0; 511]), (39, 0, "".into()));
 }
 
@@ -361,7 +370,7 @@ fn the_recorded_action_is_that_of_the_build() {
     assert_eq!(actions, by_hand);
     // lists that are not those which it wrote
     let misfit = actions.recorded(&recorded, &outputs.lists[1..]).unwrap_err();
-    assert_eq!(misfit.to_string(), "action 1: lists is 5, may be 6 or more");
+    assert_eq!(misfit.to_string(), "action 1: lists is 5, may be 6 to 18446744073709551615");
     assert_eq!(actions, by_hand);
 }
 
@@ -429,4 +438,49 @@ fn whatever_is_refused_is_named_and_nothing_panics() {
         }
     }
     assert!([1, 2, 4, 5, 6, 12, 13, 23].iter().all(|n| seen[*n] > 0), "{seen:?}");
+}
+
+fn is_error<E: std::error::Error + Send + Sync + 'static>(_: &E) {}
+
+#[test]
+#[cfg(not(without_words))]
+fn errors_speak_the_librarys_words() {
+    let sheet = fs::read(shipped("refused-build.sheet")).unwrap();
+    let read = read_sheet(&sheet).unwrap();
+    let tables = read.tables();
+    let refused = build_acceleration_structures(read.alignment, &tables, Outputs::for_tables(&tables).lend()).unwrap_err();
+    is_error(&refused);
+    assert_eq!(refused.to_string(), "refused 23: region overruns buffer, entry 0, geometry 0, offset 0, region 960, size 959");
+
+    let sheet = fs::read(shipped("damaged.sheet")).unwrap();
+    let refused = read_sheet(&sheet).unwrap_err();
+    is_error(&refused);
+    assert!(refused.to_string().starts_with("refused 2: sheet ends early, byte 1998; byte 1998: slot "), "{refused}");
+
+    let mut actions = Actions::default();
+    actions.build(&[BlasId(0)], &[(TlasId(0), &[BlasId(0)])]).unwrap();
+    actions.mark_blas(BlasId(0));
+    actions.use_tlas(TlasId(0));
+    let (mut blases, mut tlases) = (table(&[Blas::default()]).unwrap(), table(&[Tlas::default()]).unwrap());
+    let (mut counts, mut dependencies) = ([0], [0; DEPENDENCY_ROOM]);
+    let lent = Lent { blases: &mut blases, tlases: &mut tlases, dependency_counts: &mut counts, dependencies: &mut dependencies };
+    let mut indices = CommandIndices { next_acceleration_structure_build_command_index: 5, ..Default::default() };
+    let refused = validate_acceleration_structure_actions(&mut indices, lent, &actions).unwrap_err();
+    is_error(&refused);
+    assert_eq!(refused.to_string(), "refused 44: Blas newer than Tlas, use of a Tlas at action 2, Blas 0, Tlas 0");
+
+    let instance = TlasInstance { custom_data: 1 << 24, ..Default::default() };
+    let refused = append_instance(&tlases, &blases, TlasId(0), &instance, &mut [0; 64], 0).unwrap_err();
+    is_error(&refused);
+    assert!(refused.to_string().starts_with("refused 34: custom data from 2^24 on"), "{refused}");
+    assert!(OutputTooShort.to_string().starts_with("refused 39: lent output too short"));
+    is_error(&OutputTooShort);
+    is_error(&table(&[BlasGeometry { index_buffer: Some(BufferId(65535)), ..Default::default() }]).unwrap_err());
+
+    let mut text = [0; 6381];
+    let sheet = fs::read(shipped("rebuilt.sheet")).unwrap();
+    let n = explain(&sheet, &mut text).unwrap();
+    let told = std::str::from_utf8(&text[..n]).unwrap();
+    assert!(told.ends_with("next 11\nrefused 44: Blas newer than Tlas, use of a Tlas at action 4, Blas 1, Tlas 1\n"), "{told}");
+    assert_eq!(explain(&sheet, &mut text[..n - 1]), Err(OutputTooShort));
 }
