@@ -6,12 +6,13 @@
  * Build its counter step, Blases and earlier Tlases.
  *
  * The caller owes: each pointer is not null, aligned, and valid for its length, which is in elements; what a call may write
- * overlaps nothing else that is lent to it. A length may be 0, but the pointer beside it may not be null even then:
- * ZAKVIND_NONE(uint8_t) is one for no elements, and ZAKVIND_LENT(uint8_t, p) is p, or that where p is null.
+ * overlaps nothing else that is lent to it. A length may be 0, but nothing promises that the pointer beside it may then be null:
+ * ZAKVIND_NONE(uint8_t) is one to no elements, and ZAKVIND_LENT(uint8_t, p) is p, or that where p is null.
  *
  * Threads: the library has no data of its own, so calls in any number of threads do not disturb each other, as long as
- * nothing that one call may write is lent to another at the same time. Stack: a call uses at most ZAKVIND_STACK_BYTES
- * (measured, on x86-64, with the largest tables and sheets). It allocates nothing and calls only memcpy and memset.
+ * nothing that one call may write is lent to another at the same time. It allocates nothing and calls only memcpy and memset.
+ * Stack: zakvind_report and zakvind_explain use at most ZAKVIND_TEXT_STACK_BYTES, every other call ZAKVIND_STACK_BYTES. These are
+ * bounds on what was measured on x86-64 with the largest tables and sheet (bindings/c/edges.c), nothing proves them.
  *
  * Tables are records end to end, little-endian, with the layout of the sheet's sections. zakvind_records.h packs and unpacks
  * each record, and has the bytes of one and the most of each.
@@ -77,7 +78,8 @@ enum {
     ZAKVIND_LONGEST_REPORT = 6134,     /* bytes of zakvind_report */
     ZAKVIND_LONGEST_EXPLAINED = 6381,  /* bytes of zakvind_explain */
     ZAKVIND_LONGEST_WORDS = 256,       /* bytes of zakvind_words */
-    ZAKVIND_STACK_BYTES = 32768
+    ZAKVIND_STACK_BYTES = 8192,        /* of every call but the next two */
+    ZAKVIND_TEXT_STACK_BYTES = 131072  /* of zakvind_report and zakvind_explain */
 };
 
 /* A pointer to no elements, for a length of 0; and a pointer that may be null where its length is 0. */
