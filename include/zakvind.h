@@ -77,7 +77,7 @@ enum {
     ZAKVIND_INSTANCE_BYTES = 64,       /* that a present slot comes to */
     ZAKVIND_LONGEST_REPORT = 6134,     /* bytes of zakvind_report */
     ZAKVIND_LONGEST_EXPLAINED = 6381,  /* bytes of zakvind_explain */
-    ZAKVIND_LONGEST_WORDS = 256,       /* bytes of zakvind_words */
+    ZAKVIND_LONGEST_WORDS = 247,       /* bytes of zakvind_words */
     ZAKVIND_STACK_BYTES = 8192,        /* of every call but the next two */
     ZAKVIND_TEXT_STACK_BYTES = 131072  /* of zakvind_report and zakvind_explain */
 };

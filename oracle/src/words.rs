@@ -62,39 +62,54 @@ fn place(number: u64, sort: u64) -> &'static [&'static str] {
     }
 }
 
-/// Call 1 is a sheet, 2 a build, 3 a submission, 4 an append.
+/// Whether a call can refuse with a number: 1 reads a sheet, 2 builds, 3 submits, 4 appends an instance.
+fn refuses_with(call: u64, number: u64) -> bool {
+    match call {
+        1 => (1..=5).contains(&number),
+        2 => matches!(number, 4..=6 | 10..=39),
+        3 => matches!(number, 4..=6 | 21 | 39..=44),
+        4 => matches!(number, 6 | 34 | 35 | 39),
+        _ => false,
+    }
+}
+
+/// A refusal of a call. E of a sheet is its place, of a submission the action and its kind.
 pub fn words(call: u64, number: u64, e: [u64; 2], f: [u64; 3]) -> String {
     if number == 0 {
         return "nothing is refused\n".into();
     }
-    let (_, cause, mut figures) = CAUSES.iter().copied().find(|c| c.0 == number).unwrap_or((number, "no such cause", &[]));
+    let cause = CAUSES.iter().copied().find(|c| c.0 == number && refuses_with(call, number));
+    let Some((_, cause, figures)) = cause else { return format!("refused {number}: no such cause\n") };
     let mut line = format!("refused {number}: {cause}");
-    let sort = [match f[0] {
-        1 => "buffer",
-        2 => "Blas",
-        _ => "Tlas",
-    }];
-    let mut told = &f[..];
     match call {
         1 => line += &format!(", byte {}", e[0]),
+        2 => {
+            line.extend(place(number, f[0]).iter().zip(&e).map(item));
+            let sort = match (number, f[0]) {
+                (22, _) | (21, 1) => "buffer",
+                (21, 2) => "Blas",
+                (21, 3) => "Tlas",
+                _ => "resource",
+            };
+            match number {
+                21 | 22 => line += &format!(", {sort} {}", f[1]),
+                _ => line.extend(figures.iter().zip(&f).map(item)),
+            }
+        }
         3 => {
             let kind = ["", "recorded build at ", "use of a Tlas at ", "mark of a Blas at ", "mark of a Tlas at "];
-            line += &format!(", {}action {}", kind.get(e[1] as usize).unwrap_or(&""), e[0]);
-            if number == 21 {
-                figures = &["Blas"];
-            } else if number == 42 && e[1] == 2 {
-                figures = &["Tlas", "Blas"];
-            }
+            let kind = usize::try_from(e[1]).ok().and_then(|k| kind.get(k)).unwrap_or(&"");
+            line += &format!(", {kind}action {}", e[0]);
+            let figures: &[&str] = match (number, e[1]) {
+                (21, _) => &["Blas"],
+                (42, 1) => &["Blas", "Tlas"],
+                (42, 2) => &["Tlas", "Blas"],
+                (42, _) => &["Blas or Tlas", "Tlas or Blas"],
+                _ => figures,
+            };
+            line.extend(figures.iter().zip(&f).map(item));
         }
-        _ => {
-            if call == 2 {
-                line.extend(place(number, f[0]).iter().zip(&e).map(item));
-            }
-            if matches!(number, 21 | 22) {
-                (figures, told) = (&sort, &f[1..]);
-            }
-        }
+        _ => {}
     }
-    line.extend(figures.iter().zip(told).map(item));
     line + "\n"
 }

@@ -22,9 +22,9 @@ impl Call {
     }
 }
 
-/// A line of words has at most this many bytes: `refused`, its longest cause, and five numbers with their words.
+/// Bytes of the longest line of words.
 #[cfg(not(without_words))]
-const LONGEST: usize = 512;
+const LONGEST: usize = 247;
 
 /// The words of a refusal, without the line's end.
 #[cfg(not(without_words))]
