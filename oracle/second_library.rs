@@ -112,11 +112,7 @@ pub unsafe extern "C" fn zakvind_append_instance(
     n2: usize,
     used: u64,
 ) -> Numbers<7> {
-    let mut answer = reading().append(lent(tlases, n0), lent(blases, n1), tlas, &*instance, lent_mut(instances, n2), used);
-    if answer[0] != 0 {
-        answer[6] = used;
-    }
-    Numbers(answer)
+    Numbers(reading().append(lent(tlases, n0), lent(blases, n1), tlas, &*instance, lent_mut(instances, n2), used))
 }
 
 #[no_mangle]
