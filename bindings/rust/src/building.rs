@@ -247,7 +247,6 @@ pub enum Resource {
 /// Why a build is refused, with its figures.
 #[derive(Clone, Copy, Debug, PartialEq, Eq)]
 #[non_exhaustive]
-#[allow(missing_docs)] // figures are named by the paper's words
 pub enum BuildAccelerationStructureError {
     /// 4: count above its limit
     TooMany,
@@ -260,21 +259,56 @@ pub enum BuildAccelerationStructureError {
     /// 11: more geometries than declared
     IncompatibleBlasBuildSizes,
     /// 12: flags differ
-    IncompatibleBlasFlags { declared: u8, given: u8 },
+    IncompatibleBlasFlags {
+        /// what the Blas declares
+        declared: u8,
+        /// what the geometry has
+        given: u8,
+    },
     /// 13: vertex count above declared
-    IncompatibleBlasVertexCount { declared: u32, given: u32 },
+    IncompatibleBlasVertexCount {
+        /// what the Blas declares
+        declared: u32,
+        /// what the geometry has
+        given: u32,
+    },
     /// 14: vertex format differs
-    DifferentBlasVertexFormats { declared: u8, given: u8 },
+    DifferentBlasVertexFormats {
+        /// what the Blas declares
+        declared: u8,
+        /// what the geometry has
+        given: u8,
+    },
     /// 15: stride below least
-    VertexStrideTooSmall { needed: u64, given: u64 },
+    VertexStrideTooSmall {
+        /// what the Blas declares
+        needed: u64,
+        /// what the geometry has
+        given: u64,
+    },
     /// 16: stride not a multiple
-    VertexStrideUnaligned { needed: u64, given: u64 },
+    VertexStrideUnaligned {
+        /// what the Blas declares
+        needed: u64,
+        /// what the geometry has
+        given: u64,
+    },
     /// 17: index count on one side only
     BlasIndexCountProvidedMismatch,
     /// 18: index count above declared
-    IncompatibleBlasIndexCount { declared: u32, given: u32 },
+    IncompatibleBlasIndexCount {
+        /// what the Blas declares
+        declared: u32,
+        /// what the geometry has
+        given: u32,
+    },
     /// 19: index format differs
-    DifferentBlasIndexFormats { declared: u8, given: u8 },
+    DifferentBlasIndexFormats {
+        /// what the Blas declares
+        declared: u8,
+        /// what the geometry has
+        given: u8,
+    },
     /// 20: index count declared, no index buffer
     MissingIndexBuffer,
     /// 21: destroyed
@@ -282,15 +316,32 @@ pub enum BuildAccelerationStructureError {
     /// 22: no `BLAS_INPUT`
     MissingBufferUsage(BufferId),
     /// 23: region overruns buffer
-    InsufficientBufferSize { offset: u64, region: u64, size: u64 },
+    InsufficientBufferSize {
+        /// where it begins
+        offset: u64,
+        /// how long it is
+        region: u64,
+        /// how long the buffer is
+        size: u64,
+    },
     /// 24: first index, index count or transform offset absent
     MissingAssociatedData,
     /// 25: index format none
     MissingIndexFormat,
     /// 26: product or offset above 2^32 - 1
-    OffsetLimitedTo4GB { offset: u64, count: u64, stride: u64 },
+    OffsetLimitedTo4GB {
+        /// the product, or the offset
+        offset: u64,
+        /// what is multiplied
+        count: u64,
+        /// by what
+        stride: u64,
+    },
     /// 27: index count not in threes
-    InvalidIndexCount { count: u32 },
+    InvalidIndexCount {
+        /// how many there are
+        count: u32,
+    },
     /// 28: transform unflagged
     UseTransformMissing,
     /// 29: transform offset not in 16s
@@ -298,17 +349,30 @@ pub enum BuildAccelerationStructureError {
     /// 30: transform flagged, absent
     TransformMissing,
     /// 31: box count above declared
-    IncompatibleBlasAabbPrimitiveCount { declared: u32, given: u32 },
+    IncompatibleBlasAabbPrimitiveCount {
+        /// what the Blas declares
+        declared: u32,
+        /// what the geometry has
+        given: u32,
+    },
     /// 32: box offset not in eights
     UnalignedAabbPrimitiveOffset,
     /// 33: box stride below 24 or not in eights
-    InvalidAabbStride { stride: u64 },
+    InvalidAabbStride {
+        /// from one to the next
+        stride: u64,
+    },
     /// 34: custom data from 2^24 on
     TlasInvalidCustomIndex,
     /// 35: Tlas returns vertices, Blas does not
     TlasDependentMissingVertexReturn,
     /// 36: too many present slots
-    TlasInstanceCountExceeded { count: u32, most: u32 },
+    TlasInstanceCountExceeded {
+        /// how many there are
+        count: u32,
+        /// how many there may be
+        most: u32,
+    },
     /// 37: scratch 2^64 - 1
     OutOfMemory,
     /// 38: compacted Blas
@@ -316,7 +380,12 @@ pub enum BuildAccelerationStructureError {
     /// 39: lent output too short
     OutputTooShort,
     /// a number that this binding doesn't know
-    Other { number: u64, figures: [u64; 3] },
+    Other {
+        /// the number
+        number: u64,
+        /// its figures
+        figures: [u64; 3],
+    },
 }
 
 impl BuildAccelerationStructureError {

@@ -155,16 +155,21 @@ fn words(name: &str) -> String {
     name.replace('_', " ")
 }
 
-/// So many bytes.
-struct Bytes(u64);
+/// So many bytes, and the verb after them.
+struct Bytes(u64, &'static str, &'static str);
 
 impl fmt::Display for Bytes {
     fn fmt(&self, f: &mut fmt::Formatter) -> fmt::Result {
-        match self.0 {
-            1 => f.write_str("1 byte is"),
-            n => write!(f, "{n} bytes are"),
+        match self {
+            Bytes(1, one, _) => write!(f, "1 byte{one}"),
+            Bytes(n, _, several) => write!(f, "{n} bytes{several}"),
         }
     }
+}
+
+/// So many bytes, that are there.
+fn are(bytes: u64) -> Bytes {
+    Bytes(bytes, " is", " are")
 }
 
 impl fmt::Display for At {
@@ -205,13 +210,13 @@ impl fmt::Display for Misfit {
         match *self {
             Misfit::Value { at, field, value, may } => write!(f, "{at}{} is {value}, may be {may}", words(field)),
             Misfit::NotWhole { at, field, width, there } => {
-                write!(f, "{at}{} has {width} bytes, of which {} there", words(field), Bytes(wide(there)))
+                write!(f, "{at}{} has {}, of which {} there", words(field), Bytes(wide(width), "", ""), are(wide(there)))
             }
-            Misfit::LeftOver { byte, bytes } => write!(f, "byte {byte}: {} after the sheet's end", Bytes(bytes)),
+            Misfit::LeftOver { byte, bytes } => write!(f, "byte {byte}: {} after the sheet's end", are(bytes)),
             Misfit::TooMany { at, what, count, most } => write!(f, "{at}count of {what} is {count}, may be 0 to {most}"),
             Misfit::Drawn { at, table, count, by, drawn } => write!(f, "{at}count of {table} is {count}, the {by} draw {drawn}"),
             Misfit::PartRecord { at, bytes, whole } => {
-                write!(f, "{at}a record has {whole} bytes, of which {} there", Bytes(wide(bytes)))
+                write!(f, "{at}a record has {whole} bytes, of which {} there", are(wide(bytes)))
             }
             Misfit::PartAction { at, cells } => write!(f, "{at}an action has 4 cells, of which {cells} are there"),
             Misfit::PastLists { at, end, cells } => write!(f, "{at}its lists end before cell {end}, {cells} cells are lent"),

@@ -128,8 +128,12 @@ pub enum ValidateAsActionsError {
     /// 44: Blas newer than Tlas
     BlasNewerThenTlas(BlasId, TlasId),
     /// a number that this binding doesn't know
-    #[allow(missing_docs)]
-    Other { number: u64, figures: [u64; 2] },
+    Other {
+        /// the number
+        number: u64,
+        /// its figures
+        figures: [u64; 2],
+    },
 }
 
 impl ValidateAsActionsError {
