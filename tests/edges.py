@@ -42,6 +42,7 @@ RT = """#!/bin/bash
 case $1 in
 try)
     [ -z "${TRY_FAILS-}" ] || exit 2
+    [ -z "${TRIES-}" ] || echo x >>"$TRIES"
     printf 'FAIL: the native program at -O3 ended, but did not write what is expected\\nwhat the run said:\\nthe program exited with status 0\\n'
     mapfile -t words < <(cat crates/zakvind/args 2>/dev/null)
     "${TRIED-$PROGRAM}" "${words[@]}" <crates/zakvind/stdin
@@ -52,6 +53,8 @@ check)
     mkdir -p target
     mkdir target/busy || touch target/overlap
     echo x >>target/checks
+    # as long as other first runs that are awaited have not come to their own
+    for _ in {1..300}; do [ -n "${TRIES-}" ] && [ "$(wc -l <"$TRIES")" -lt 3 ] || break; sleep 0.1; done
     sleep 0.4
     rmdir target/busy
     [ -z "${CHECK_FAILS-}" ] || { echo 'rt: zakvind NOT PROVED'; exit 1; }
@@ -61,7 +64,7 @@ check)
     ;;
 esac
 """
-TOOLS = "awk basename bash cat cmp cp dirname env find flock grep head mkdir mktemp mv readlink rm rmdir sed sha256sum sleep sort tail tee touch tr"
+TOOLS = "awk basename bash cat cmp cp dirname env find flock grep head mkdir mktemp mv readlink rm rmdir sed sha256sum sleep sort tail tee touch tr wc"
 
 
 def stand_in(folder):
@@ -326,14 +329,13 @@ def test_first_run_inputs():
 
 def test_two_first_runs():
     own = checkout()
-    env = environment()
+    env = environment(TRIES=own / "tries")
     files = [SHEETS / "usable.sheet", SHEETS / "rebuilt.sheet", SHEETS / "usable.sheet"]
     started = [subprocess.Popen([own / "zakvind", f], env=env, stdout=subprocess.PIPE, stderr=subprocess.PIPE) for f in files]
     ended = [p.communicate(timeout=60) + (p.returncode,) for p in started]
     for f, (out, err, status) in zip(files, ended):
         assert out == program(f.read_bytes()) and status == STATUS[f.stem] and b"answers the same" in err, (out, err, status)
     assert not (own / "target/overlap").exists() and (own / "target/checks").read_text() == "x\n"
-    assert sum(b"another run is proving" in err for _, err, _ in ended) >= 1
     assert not Run(own, files[0]).err
 
 
