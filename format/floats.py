@@ -4,7 +4,7 @@ import struct
 from fractions import Fraction
 from functools import lru_cache
 
-NUMBER = re.compile(r"[+-]?(\d+\.?\d*|\.\d+)(e[+-]?\d{1,4})?", re.I)
+NUMBER = re.compile(r"[+-]?(\d+\.?\d*|\.\d+)(e[+-]?\d{1,4})?", re.I | re.A)
 LARGEST = 0x7F7FFFFF  # the bits of the largest finite one
 INFINITE = 0x7F800000
 SIGN = 0x80000000

@@ -185,20 +185,23 @@ def show(walked, verdict):
 
 
 def statements(text):
-    """(line number, text) of each statement: without comments and remarks; a line that ends with a comma goes on in the next."""
-    open_at, parts = 0, []
-    number = 0
+    """The parts of each statement that commas divide, each with its line: without comments and remarks; a line that ends with a comma
+    goes on in the next."""
+    parts, number = [], 0
     for number, line in enumerate(text.split("\n"), 1):
         line = re.sub(r"\([^()]*\)", " ", line.split("#", 1)[0]).strip()
         if "(" in line or ")" in line:
             raise BadText(number, "a remark in parentheses ends on its line, and has none inside it")
         if not line:
             continue
-        parts.append(line)
-        open_at = open_at or number
-        if not line.endswith(","):
-            yield open_at, " ".join(parts)
-            open_at, parts = 0, []
+        own = [part.strip() for part in line.split(",")]
+        goes_on = own[-1] == ""
+        parts += [(number, part) for part in (own[:-1] if goes_on else own)]
+        if any(part == "" for _, part in parts):
+            raise BadText(number, "nothing stands before a comma")
+        if not goes_on:
+            yield parts
+            parts = []
     if parts:
         raise BadText(number, "the text ends after a comma")
 
@@ -216,7 +219,7 @@ def number_of(f, word):
         parts = word.lower().split("+")
         if all(p in bits for p in parts) and len(set(parts)) == len(parts):
             return sum(bits[p] for p in parts)
-    if re.fullmatch(r"\d[\d_]*|0x[0-9a-fA-F_]+", word):
+    if re.fullmatch(r"[0-9][0-9_]*|0x[0-9a-fA-F_]*[0-9a-fA-F]", word):
         return int(word.replace("_", ""), 0 if word.startswith("0x") else 10)
     known = [*f.values.values(), *f.bits.values(), *(["none"] if f.none else [])]
     raise ValueError(f"{word} is no number" + (f", and none of {', '.join(known)}" if known else ""))
@@ -233,37 +236,42 @@ def value_of(f, word, line):
 
 
 class Made:
-    """A record as it is written in the text."""
+    """A record as it is written in the text, with the line of each field that is given."""
 
     def __init__(self, s, line, boxes):
-        self.section, self.line, self.given, self.boxes, self.drawn = s, line, {}, boxes, 0
+        self.section, self.line, self.boxes, self.drawn = s, line, boxes, 0
+        self.given, self.lines = {}, {}
 
-    def put(self, part):
+    def put(self, line, part):
         name, *words = part.split()
         s = self.section
         if s.one == "slot" and name == "at":
-            self.put_translation(words)
+            self.put_translation(line, words)
             return
         f = FIELDS.get((s.number, name))
         if f is None:
-            raise BadText(self.line, f"{s.one} has no field {name}; it has {', '.join(f.name for f in s.fields)}")
+            raise BadText(line, f"{s.one} has no field {name}; it has {', '.join(f.name for f in s.fields)}")
         words = [w for w in words if w != "/"] if f.times > 1 else words
         if len(words) != f.times:
-            raise BadText(self.line, f"{name} has {f.times} value{'s' * (f.times > 1)}, and {len(words)} are given")
-        self.give(name, [value_of(f, w, self.line) for w in words])
+            raise BadText(line, f"{name} has {f.times} value{'s' * (f.times > 1)}, and {len(words)} are given")
+        self.give(line, name, [value_of(f, w, line) for w in words])
 
-    def give(self, name, values):
+    def give(self, line, name, values):
         if name in self.given:
-            raise BadText(self.line, f"{name} is given twice")
-        self.given[name] = values
+            raise BadText(line, f"{name} is given twice")
+        self.given[name], self.lines[name] = values, line
 
-    def put_translation(self, words):
+    def put_translation(self, line, words):
         if len(words) != 3:
-            raise BadText(self.line, f"at has 3 values, and {len(words)} are given")
+            raise BadText(line, f"at has 3 values, and {len(words)} are given")
         f = self.section.fields[-1]
         bits = [floats.parse(repr(x)) for x in IDENTITY]
-        bits[3::4] = [value_of(f, w, self.line) for w in words]
-        self.give(f.name, bits)
+        bits[3::4] = [value_of(f, w, line) for w in words]
+        self.give(line, f.name, bits)
+
+    def line_of(self, name):
+        """The line of a field; of one that is left out the record's."""
+        return self.lines.get(name.rstrip("_0123456789"), self.line)
 
     def values(self):
         """(field, value) of each field, those that are left out included."""
@@ -291,12 +299,12 @@ class Text:
     def __init__(self, text):
         self.head, self.lines = {}, {}
         self.records = {s.number: [] for s in SECTIONS}
-        for line, statement in statements(text):
-            what, colon, rest = statement.partition(":")
-            if colon and what.split()[0] in BY_ONE:
-                self.put_record(line, what.split(), rest)
+        for (line, first), *rest in statements(text):
+            what, colon, own = first.partition(":")
+            if colon and what.split()[:1] and what.split()[0] in BY_ONE:
+                self.put_record(line, what.split(), [(line, own.strip()), *rest])
             else:
-                self.put_head(line, statement)
+                self.put_head(line, ", ".join([first, *(part for _, part in rest)]))
 
     def put_head(self, line, statement):
         name, *words = statement.split()
@@ -310,7 +318,7 @@ class Text:
             raise BadText(line, f"{name} is given twice")
         self.head[name], self.lines[name] = value_of(f, words[0], line), line
 
-    def put_record(self, line, what, rest):
+    def put_record(self, line, what, parts):
         s = BY_ONE[what[0]]
         above = self.records[s.drawn_by][-1] if s.drawn_by and self.records[s.drawn_by] else None
         r = Made(s, line, s.kind == "entry" and above is not None and above.given.get("kind") == [1])
@@ -320,8 +328,9 @@ class Text:
         if above:
             above.drawn += 1
         self.records[s.number].append(r)
-        for part in filter(None, map(str.strip, rest.split(","))):
-            r.put(part)
+        for at, part in parts:
+            if part:
+                r.put(at, part)
 
     def bytes(self):
         head = {"version": VERSION, "alignment": 0, "counter": 0, **self.head}
@@ -341,7 +350,7 @@ class Text:
         """The line that has what is refused."""
         records = self.records.get(refusal.section, [])
         if 0 <= refusal.record < len(records):
-            return records[refusal.record].line
+            return records[refusal.record].line_of(refusal.name)
         if refusal.section:
             return records[-1].line if records else 0
         return self.lines.get(refusal.name, 0)

@@ -42,6 +42,7 @@ RT = """#!/bin/bash
 case $1 in
 try)
     [ -z "${TRY_FAILS-}" ] || exit 2
+    [ -z "${TRIES-}" ] || echo x >>"$TRIES"
     printf 'FAIL: the native program at -O3 ended, but did not write what is expected\\nwhat the run said:\\nthe program exited with status 0\\n'
     mapfile -t words < <(cat crates/zakvind/args 2>/dev/null)
     "${TRIED-$PROGRAM}" "${words[@]}" <crates/zakvind/stdin
@@ -52,6 +53,8 @@ check)
     mkdir -p target
     mkdir target/busy || touch target/overlap
     echo x >>target/checks
+    # as long as other first runs that are awaited have not come to their own
+    for _ in {1..300}; do [ -n "${TRIES-}" ] && [ "$(wc -l <"$TRIES")" -lt 3 ] || break; sleep 0.1; done
     sleep 0.4
     rmdir target/busy
     [ -z "${CHECK_FAILS-}" ] || { echo 'rt: zakvind NOT PROVED'; exit 1; }
@@ -61,7 +64,7 @@ check)
     ;;
 esac
 """
-TOOLS = "awk basename bash cat cmp cp dirname env find flock grep head mkdir mktemp mv readlink rm rmdir sed sha256sum sleep sort tail tee touch tr"
+TOOLS = "awk basename bash cat cmp cp dirname env find flock grep head mkdir mktemp mv readlink rm rmdir sed sha256sum sleep sort tail tee touch tr wc"
 
 
 def stand_in(folder):
@@ -326,14 +329,13 @@ def test_first_run_inputs():
 
 def test_two_first_runs():
     own = checkout()
-    env = environment()
+    env = environment(TRIES=own / "tries")
     files = [SHEETS / "usable.sheet", SHEETS / "rebuilt.sheet", SHEETS / "usable.sheet"]
     started = [subprocess.Popen([own / "zakvind", f], env=env, stdout=subprocess.PIPE, stderr=subprocess.PIPE) for f in files]
     ended = [p.communicate(timeout=60) + (p.returncode,) for p in started]
     for f, (out, err, status) in zip(files, ended):
         assert out == program(f.read_bytes()) and status == STATUS[f.stem] and b"answers the same" in err, (out, err, status)
     assert not (own / "target/overlap").exists() and (own / "target/checks").read_text() == "x\n"
-    assert sum(b"another run is proving" in err for _, err, _ in ended) >= 1
     assert not Run(own, files[0]).err
 
 
@@ -657,6 +659,10 @@ WRONG = (
     ("package: tlas 0\nslot: at 1 2 nan", "line 2: transform: nan is no number"),
     ("package: tlas 0\nslot: at 1 2 nan:3f800000", "line 2: transform: nan:3f800000 is no NaN"),
     ("buffer: size 1,\n", "line 2: the text ends after a comma"),
+    ("buffer:\nbuffer: size 1, # more\n\n  marks 300", "line 4: marks: 300 does not fit 1 byte"),
+    ("buffer: size 1,, marks 1", "line 1: nothing stands before a comma"),
+    ("alignment 1, counter 1", "line 1: alignment has 1 value, and 3 are given"),
+    (": size 1", "line 1: : begins no line"),
     ("buffer: size 1 (a (b))", "line 1: a remark"),
     ("geometry: buffer none", "line 1: buffer: none is no number"),
     ("declared: blas 65536", "line 1: blas: 65536 does not fit 2 bytes"),
@@ -677,9 +683,29 @@ def test_make_errors():
     one_line(Run(box, "--make", input=b"\xff"), "byte 0 is not text")
     # what the reader refuses is made, and said
     run = Run(box, "--make", input=b"alignment 1\nbuffer: size 36,\n  marks 9\n")
-    assert run.status == 1 and Walked(run.out).refusal[:2] == (5, 23) and "line 2: marks is 9, may be 0 to 3: the sheet is made, and is refused by 5" in run.err, run
+    assert run.status == 1 and Walked(run.out).refusal[:2] == (5, 23) and "line 3: marks is 9, may be 0 to 3: the sheet is made, and is refused by 5" in run.err, run
     run = Run(box, "--make", input=b"counter 1\n")
     assert run.status == 1 and "alignment is 0" in run.err, run
+
+
+def test_make_of_anything():
+    """Whatever the text, it is made or what is wrong with it has a line."""
+    choose = random.Random(8)
+    pieces = list("abcxyz019 :,()#/+-._\n\t") + ["buffer", "slot:", "none", "nan:", "0x", "1e5", "transform", "at", "\u00b2", "\0", "65536", "index_buffer"]
+    made = 0
+    for _ in range(1500):
+        text = EXAMPLE
+        for _ in range(choose.randint(1, 4)):
+            at = choose.randrange(len(text))
+            text = text[:at] + choose.choice(pieces) + text[at + choose.choice((0, 1, 1, 5)) :]
+        try:
+            data, refused = make(text)
+        except BadText as e:
+            assert 1 <= e.args[0] <= text.count("\n") + 1, text
+        else:
+            made += 1
+            assert (Walked(data).refusal is None) == (refused is None), text
+    assert 30 < made < 1400, made
 
 
 def test_make_by_hand():
