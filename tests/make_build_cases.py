@@ -1,5 +1,5 @@
 #!/usr/bin/env python3
-"""Writes crates/build_cases/stdin and stdout: builds over lent tables, and the answers of paper.py.
+"""Writes crates/cases_build/stdin and stdout: builds over lent tables, and the answers of paper.py.
 
 A case: sixteen u32, the scratch alignment, the lengths of the eight tables in bytes and of the seven lent outputs in elements; then the
 tables. Its line: number, E, three figures, recorded, scratch size, how many elements of each output are written, and a hash of each
@@ -190,7 +190,7 @@ def hashed(values, index):
 
 
 def main():
-    folder = pathlib.Path(__file__).resolve().parent.parent / "crates/build_cases"
+    folder = pathlib.Path(__file__).resolve().parent.parent / "crates/cases_build"
     folder.mkdir(exist_ok=True)
     lines, seen = [], {}
     cases = [(x["alignment"], tables(x), room) for x, room in all_cases()]

@@ -1,5 +1,5 @@
 #!/usr/bin/env python3
-"""Writes crates/read_cases/stdin, sheets each after its length as a u32, and crates/read_cases/stdout, the answers of reading.py."""
+"""Writes crates/cases_sheet/stdin, sheets each after its length as a u32, and crates/cases_sheet/stdout, the answers of reading.py."""
 import pathlib
 import random
 import struct
@@ -172,7 +172,7 @@ def cases():
 
 
 def main():
-    folder = pathlib.Path(__file__).resolve().parent.parent / "crates/read_cases"
+    folder = pathlib.Path(__file__).resolve().parent.parent / "crates/cases_sheet"
     answers = []
     with open(folder / "stdin", "wb") as out:
         for case in cases():

@@ -1,5 +1,5 @@
 #!/usr/bin/env python3
-"""Writes crates/report_cases/stdin, sheets each after its length as a u32, and crates/report_cases/stdout, what printed.py prints for them:
+"""Writes crates/cases_report/stdin, sheets each after its length as a u32, and crates/cases_report/stdout, what printed.py prints for them:
 the lines of each, and then the lines with their refusal in words.
 
 Every number that a sheet can draw is drawn: 1 to 5 for the sheet, 6 and 10 to 38 for its build, 6, 21 and 40 to 44 for its actions. So is
@@ -161,7 +161,7 @@ def cases():
 
 
 def main():
-    folder = pathlib.Path(__file__).resolve().parent.parent / "crates/report_cases"
+    folder = pathlib.Path(__file__).resolve().parent.parent / "crates/cases_report"
     folder.mkdir(exist_ok=True)
     texts, seen, words = [], {}, set()
     with open(folder / "stdin", "wb") as out:

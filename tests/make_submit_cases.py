@@ -1,5 +1,5 @@
 #!/usr/bin/env python3
-"""Writes crates/submit_cases/stdin and stdout: submissions over lent tables, and the answers of paper.py.
+"""Writes crates/cases_submit/stdin and stdout: submissions over lent tables, and the answers of paper.py.
 
 A case: seven u32, 0 for new tables or 1 to go on with what the case before left, then how many bytes of Blases and Tlases, cells of
 counts and lists of dependencies, cells of actions and of their lists follow; the counter as a u64; and these bytes and cells. With 1 no
@@ -203,7 +203,7 @@ def cut(out, start, lists):
 
 
 def main():
-    folder = pathlib.Path(__file__).resolve().parent.parent / "crates/submit_cases"
+    folder = pathlib.Path(__file__).resolve().parent.parent / "crates/cases_submit"
     choose = random.Random(11)
     with open(folder / "stdin", "wb") as file:
         out = Out(file)

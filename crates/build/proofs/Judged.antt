@@ -8,30 +8,30 @@ use lib.Dec.{eqb}
 use lib.ListN.{length, getD}
 use Rattle.ray_tracing.specs.declared.BuildAccelerationStructureError.{BuildAccelerationStructureError}
 use Rattle.ray_tracing.specs.Causes.{Cause, bare, buildCause}
-use Rattle.ray_tracing.specs.Plan.{Tables, Verdict, passed, refused, on, _or_, judgeTables, judgeIds, judgeEntries, judgePackages, judgeFinal, scratchSize, Outputs, planOf, tooShort, short, countsOf, Answer, recorded, nothing-recorded, not-built, unless, build, leaves}
+use Rattle.ray_tracing.specs.Plan.{Tables, Verdict, passed, refused, on, _or_, judgeTables, judgeIds, judgeEntries, judgePackages, judgeFinal, scratchSize, Outputs, planOf, tooShort, short, countsOf, Building, recorded, nothing-recorded, not-built, unless, build, leaves, outputsOf}
 use Rattle.ray_tracing.proofs.Verdicts.{or-passed}
 use Rattle.ray_tracing.proofs.Inside.{Inside, inside}
-use Rattle.validate.specs.declared.Judgement.{Judgement}
-use Rattle.validate.specs.declared.Judgement.the-variants as judgement
-use Rattle.validate.specs.Judging.{Judged, nothing, to-record, judgementOf, judgeBuild}
-use Rattle.validate.specs.Judging as judging
-use Rattle.init_ranges.specs.Entries.{entriesIn}
-use Rattle.init_ranges.specs.Ranges.{allRanges, DrawnFit}
-use Rattle.plan.specs.Planned.{planned, Plannable, outputsOf}
-use Rattle.plan.proofs.Judged.{plan-is, geometries-drawn, plannable}
+use Rattle.build_judge.specs.declared.Judgement.{Judgement}
+use Rattle.build_judge.specs.declared.Judgement.the-variants as judgement
+use Rattle.build_judge.specs.Judging.{BuildJudged, nothing, to-record, judgementOf, judgeBuild}
+use Rattle.build_judge.specs.Judging as judging
+use Rattle.ray_tracing.specs.Parts.{entriesIn}
+use Rattle.build_ranges.specs.Ranges.{allRanges, DrawnFit}
+use Rattle.build_plan.specs.Planned.{planned, Plannable}
+use Rattle.build_plan.proofs.Judged.{plan-is, geometries-drawn, plannable}
 use Rattle.build.specs.Room.{recordedIf, nothingIf, rangesLeft}
 
 -- ---- over plain values: v is judged first, z is no scratch, w is judged last, then y
 
-module _ (v : Verdict) (z : Bool) (w y : Verdict) (s : ℕ) (a r : Answer) where
-  abbrev found : Judged
-  found = judging.unless v (cond z nothing (judging.unless w (to-record s)))
+module _ (v : Verdict) (z : Bool) (w y : Verdict) (s : ℕ) (a r : Building) where
+  abbrev found : BuildJudged
+  found = judging.judgedUnless v (cond z nothing (judging.judgedUnless w (to-record s)))
 
-  abbrev answer : Answer
+  abbrev answer : Building
   answer = unless v (cond z a (unless (w or y) r))
 
 refused-found :
-    (v : Verdict) (z : Bool) (w y : Verdict) (s : ℕ) (a r : Answer) (e f : ℕ) (c : Cause)
+    (v : Verdict) (z : Bool) (w y : Verdict) (s : ℕ) (a r : Building) (e f : ℕ) (c : Cause)
     → found v z w y s a r ≡ judging.not-built e f c
     → not-built e f c ≡ answer v z w y s a r
 refused-found (refused i j d) z w y s a r e f c h = cc
@@ -40,7 +40,7 @@ refused-found passed false passed y s a r e f c h = let q : _≡_ {A = ℕ} 0 1 
 refused-found passed false (refused i j d) y s a r e f c h = cc
 
 nothing-found :
-    (v : Verdict) (z : Bool) (w y : Verdict) (s : ℕ) (a r : Answer)
+    (v : Verdict) (z : Bool) (w y : Verdict) (s : ℕ) (a r : Building)
     → found v z w y s a r ≡ nothing
     → (v ≡ passed) × (a ≡ answer v z w y s a r)
 nothing-found (refused i j d) z w y s a r h = let q : _≡_ {A = ℕ} 0 1 = cc in absurd (omega arith)
@@ -49,7 +49,7 @@ nothing-found passed false passed y s a r h = let q : _≡_ {A = ℕ} 0 1 = cc i
 nothing-found passed false (refused i j d) y s a r h = let q : _≡_ {A = ℕ} 0 1 = cc in absurd (omega arith)
 
 record-found :
-    (v : Verdict) (z : Bool) (w y : Verdict) (s n : ℕ) (a r : Answer)
+    (v : Verdict) (z : Bool) (w y : Verdict) (s n : ℕ) (a r : Building)
     → found v z w y s a r ≡ to-record n
     → (v ≡ passed) × ((n ≡ s) × (unless y r ≡ answer v z w y s a r))
 record-found (refused i j d) z w y s n a r h = let q : _≡_ {A = ℕ} 0 1 = cc in absurd (omega arith)
@@ -74,10 +74,10 @@ module _ (x : Tables) (o : Outputs) where
   abbrev no-scratch : Bool
   no-scratch = eqb (scratchSize x) 0
 
-  abbrev without : Answer
+  abbrev without : Building
   without = nothingIf (planOf x .«init_ranges») (o .«init_ranges»)
 
-  abbrev with-all : Answer
+  abbrev with-all : Building
   with-all = recorded (scratchSize x) (countsOf (planOf x))
 
   all-passed : first ≡ passed → Passed x
@@ -93,17 +93,17 @@ module _ (x : Tables) (o : Outputs) where
         (c : BuildAccelerationStructureError) (e f : ℕ)
         → j ≡ judgement.Refused c e f
         → (not-built e f (buildCause c) ≡ build x o) × (o ≡ leaves (build x o) (planOf x) o)
-    unfolding build judgeBuild judging.judgeRecords
+    unfolding build judgeBuild judging.judgeToPackages
     refused-build c e f h =
         let a = refused-found first no-scratch (judgeFinal x) room (scratchSize x) without with-all e f (buildCause c) (sym k ∙ ap judgementOf h) in
-        (a, ap (λ (b : Answer). leaves b (planOf x) o) a)
+        (a, ap (λ (b : Building). leaves b (planOf x) o) a)
 
     nothing-answer : j ≡ judgement.Nothing → (first ≡ passed) × (without ≡ build x o)
-    unfolding build judgeBuild judging.judgeRecords
+    unfolding build judgeBuild judging.judgeToPackages
     nothing-answer h = nothing-found first no-scratch (judgeFinal x) room (scratchSize x) without with-all (sym k ∙ ap judgementOf h)
 
     record-answer : (n : ℕ) → j ≡ judgement.ToRecord n → (first ≡ passed) × (recordedIf n (planOf x) o ≡ build x o)
-    unfolding build judgeBuild judging.judgeRecords
+    unfolding build judgeBuild judging.judgeToPackages
     record-answer n h =
         let a = record-found first no-scratch (judgeFinal x) room (scratchSize x) n without with-all (sym k ∙ ap judgementOf h) in
         (a .0, ap (λ (s : ℕ). unless room (recorded s (countsOf (planOf x)))) (a .1 .0) ∙ a .1 .1)
@@ -116,7 +116,7 @@ module _ (x : Tables) (o : Outputs) where
 
     -- recorded, or 39
     pub record-build :
-        {b : Answer} {o′ : Outputs} (n : ℕ)
+        {b : Building} {o′ : Outputs} (n : ℕ)
         → j ≡ judgement.ToRecord n
         → b ≡ recordedIf n (planned (x .alignment) (x .blases) (x .tlases) (x .entries) (x .geometries) (x .packages) (x .slots)) o
         → o′ ≡ leaves b (planned (x .alignment) (x .blases) (x .tlases) (x .entries) (x .geometries) (x .packages) (x .slots)) o
@@ -128,7 +128,7 @@ module _ (x : Tables) (o : Outputs) where
 
     -- nothing recorded, or 39
     pub nothing-build :
-        {b : Answer} {ranges : List ℕ}
+        {b : Building} {ranges : List ℕ}
         → j ≡ judgement.Nothing
         → b ≡ nothingIf (allRanges (x .entries) (x .geometries) 0 0 (entriesIn (x .entries))) (o .«init_ranges»)
         → ranges ≡ rangesLeft b (allRanges (x .entries) (x .geometries) 0 0 (entriesIn (x .entries))) (o .«init_ranges»)
@@ -142,7 +142,7 @@ module _ (x : Tables) (o : Outputs) where
           a,
           ap (λ (l : List ℕ). outputsOf (o .«blas_offsets») (o .«tlas_offsets») (o .«staging_ranges») (o .instances) l (o .compactable) (o .lists)) g
               ∙ only-ranges (on (short (planOf x .«init_ranges») (o .«init_ranges»)) (refused 0 0 (bare 39)))
-              ∙ ap (λ (q : Answer). leaves q (planOf x) o) (nothing-answer h .1),
+              ∙ ap (λ (q : Building). leaves q (planOf x) o) (nothing-answer h .1),
         )
       where
         only-ranges :

@@ -9,7 +9,7 @@ use borrow.Author.Tests.{lt-ltb, le-ltb, ltb-false}
 use Rattle.ray_tracing.specs.declared.Written.{Written}
 use Rattle.ray_tracing.specs.Causes.{bare}
 use Rattle.ray_tracing.specs.Plan.{Outputs, countsOf, tooShort, short, recorded, nothing-recorded, not-built}
-use Rattle.plan.specs.Planned.{Room}
+use Rattle.build_plan.specs.Planned.{PlanRoom}
 use Rattle.build.specs.Room.{shortOf, recordedIf, nothingIf}
 
 or-left : (a b : Bool) → (a || b) ≡ false → a ≡ false
@@ -34,7 +34,7 @@ module _ (p o : Outputs) where
   pub recorded-fits : {w : Written} {t : Bool} (size : ℕ) → w ≡ countsOf p → t ≡ tooShort p o → t ≡ false → recorded size w ≡ recordedIf size p o
   recorded-fits size c e f = rw (sym e ∙ f) (ap (recorded size) c)
 
-  pub room-is : {t : Bool} → t ≡ tooShort p o → t ≡ false → Room p o
+  pub room-is : {t : Bool} → t ≡ tooShort p o → t ≡ false → PlanRoom p o
   room-is e f =
       let a = sym e ∙ f in
       let b = or-right (short (p .«blas_offsets») (o .«blas_offsets»)) _ a in

@@ -7,7 +7,7 @@ use lib.Seq.{sets}
 use lib.Dec.{ltb}
 use Rattle.ray_tracing.specs.declared.Written.{Written}
 use Rattle.ray_tracing.specs.Causes.{bare}
-use Rattle.ray_tracing.specs.Plan.{Tables, Outputs, planOf, build, leaves, refused, on, tooShort, short, countsOf, Answer, recorded, nothing-recorded, not-built, unless}
+use Rattle.ray_tracing.specs.Plan.{Tables, Outputs, planOf, build, leaves, refused, on, tooShort, short, countsOf, Building, recorded, nothing-recorded, not-built, unless}
 
 abbrev pub shortOf : Written → Written → Bool
 shortOf w lent =
@@ -19,19 +19,15 @@ shortOf w lent =
     || (ltb (lent .compactable) (w .compactable) || ltb (lent .lists) (w .lists))))))
 
 -- with room for what is written, recorded
-abbrev pub recordedIf : ℕ → Outputs → Outputs → Answer
+abbrev pub recordedIf : ℕ → Outputs → Outputs → Building
 recordedIf size p o = unless (on (tooShort p o) (refused 0 0 (bare 39))) (recorded size (countsOf p))
 
 -- with room for the initialisation ranges, nothing recorded
-abbrev pub nothingIf : List ℕ → List ℕ → Answer
+abbrev pub nothingIf : List ℕ → List ℕ → Building
 nothingIf ranges lent = unless (on (short ranges lent) (refused 0 0 (bare 39))) (nothing-recorded (length ranges))
 
 -- the ranges' output after it: a refusal writes none
-abbrev pub rangesLeft : Answer → List ℕ → List ℕ → List ℕ
+abbrev pub rangesLeft : Building → List ℕ → List ℕ → List ℕ
 rangesLeft (recorded n w) ranges lent = sets lent 0 ranges
 rangesLeft (nothing-recorded n) ranges lent = sets lent 0 ranges
 rangesLeft (not-built e f c) ranges lent = lent
-
--- what a build leaves of its outputs
-abbrev pub outputsAfter : Tables → Outputs → Outputs
-outputsAfter x o = leaves (build x o) (planOf x) o

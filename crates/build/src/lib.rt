@@ -1,22 +1,21 @@
 // A build: all is judged before anything is written, so that a refusal changes no lent byte.
-use init_ranges::count_ranges;
-use init_ranges::write_init_ranges;
-use plan::counts;
-use plan::write_plan;
+use build_judge::Judgement;
+use build_judge::judge_build;
+use build_plan::counts;
+use build_plan::write_plan;
+use build_ranges::count_ranges;
+use build_ranges::write_init_ranges;
 use ray_tracing::BuildAccelerationStructureError;
 use ray_tracing::Built;
 use ray_tracing::Written;
-use validate::Judgement;
-use validate::judge_build;
 ghost use mathlib.Core.Path.{_≡_};
 ghost use lib.ListN.{length};
 ghost use lib.Seq.{sets};
-ghost use Rattle.ray_tracing.specs.Plan.{answerOf, build, leaves};
-ghost use Rattle.ray_tracing.proofs.Inside.{tablesOf};
-ghost use Rattle.init_ranges.specs.Entries.{entriesIn};
-ghost use Rattle.init_ranges.specs.Ranges.{allRanges, DrawnFit};
-ghost use Rattle.plan.specs.Planned.{planned, Plannable, outputsOf};
-ghost use Rattle.build.specs.Room.{shortOf, recordedIf, nothingIf, rangesLeft, outputsAfter};
+ghost use Rattle.ray_tracing.specs.Plan.{buildingOf, build, leaves, tablesOf, outputsOf, outputsAfter};
+ghost use Rattle.ray_tracing.specs.Parts.{entriesIn};
+ghost use Rattle.build_ranges.specs.Ranges.{allRanges, DrawnFit};
+ghost use Rattle.build_plan.specs.Planned.{planned, Plannable};
+ghost use Rattle.build.specs.Room.{shortOf, recordedIf, nothingIf, rangesLeft};
 
 // Whether an output is too short: what would be written, and what is lent.
 fn too_short(w: Written, lent: Written) -> bool
@@ -46,8 +45,8 @@ fn too_short(w: Written, lent: Written) -> bool
 // Nothing to record: only the initialisation ranges, 39 if they do not fit.
 fn record_nothing(entries: &[u8], geometries: &[u8], init_ranges: &mut [u64]) -> Built
     requires { ⌜ DrawnFit (now entries) (now geometries) ⌝ }
-    ensures { λ r. ⌜ answerOf r ≡ nothingIf (allRanges (now (entries .entry)) (now (geometries .entry)) 0 0 (entriesIn (now (entries .entry)))) (now («init_ranges» .entry)) ⌝ }
-    ensures { λ r. ⌜ now («init_ranges» .exit) ≡ rangesLeft (answerOf r) (allRanges (now (entries .entry)) (now (geometries .entry)) 0 0 (entriesIn (now (entries .entry)))) (now («init_ranges» .entry)) ⌝ }
+    ensures { λ r. ⌜ buildingOf r ≡ nothingIf (allRanges (now (entries .entry)) (now (geometries .entry)) 0 0 (entriesIn (now (entries .entry)))) (now («init_ranges» .entry)) ⌝ }
+    ensures { λ r. ⌜ now («init_ranges» .exit) ≡ rangesLeft (buildingOf r) (allRanges (now (entries .entry)) (now (geometries .entry)) 0 0 (entriesIn (now (entries .entry)))) (now («init_ranges» .entry)) ⌝ }
 {
     let n = count_ranges(entries, geometries);
     if init_ranges.len() < n {
@@ -76,10 +75,10 @@ fn record_plan(
     lists: &mut [u16],
 ) -> Built
     requires { ⌜ Plannable alignment (now blases) (now tlases) (now entries) (now geometries) (now packages) (now slots) ⌝ }
-    ensures { λ r. ⌜ answerOf r ≡ recordedIf size (planned alignment (now (blases .entry)) (now (tlases .entry)) (now (entries .entry)) (now (geometries .entry)) (now (packages .entry)) (now (slots .entry)))
+    ensures { λ r. ⌜ buildingOf r ≡ recordedIf size (planned alignment (now (blases .entry)) (now (tlases .entry)) (now (entries .entry)) (now (geometries .entry)) (now (packages .entry)) (now (slots .entry)))
         (outputsOf (now («blas_offsets» .entry)) (now («tlas_offsets» .entry)) (now («staging_ranges» .entry)) (now (instances .entry)) (now («init_ranges» .entry)) (now (compactable .entry)) (now (lists .entry))) ⌝ }
     ensures { λ r. ⌜ outputsOf (now («blas_offsets» .exit)) (now («tlas_offsets» .exit)) (now («staging_ranges» .exit)) (now (instances .exit)) (now («init_ranges» .exit)) (now (compactable .exit)) (now (lists .exit))
-        ≡ leaves (answerOf r) (planned alignment (now (blases .entry)) (now (tlases .entry)) (now (entries .entry)) (now (geometries .entry)) (now (packages .entry)) (now (slots .entry)))
+        ≡ leaves (buildingOf r) (planned alignment (now (blases .entry)) (now (tlases .entry)) (now (entries .entry)) (now (geometries .entry)) (now (packages .entry)) (now (slots .entry)))
         (outputsOf (now («blas_offsets» .entry)) (now («tlas_offsets» .entry)) (now («staging_ranges» .entry)) (now (instances .entry)) (now («init_ranges» .entry)) (now (compactable .entry)) (now (lists .entry))) ⌝ }
 {
     let w = counts(blases, entries, geometries, packages, slots);
@@ -132,7 +131,7 @@ pub fn build_acceleration_structures(
     compactable: &mut [u16],
     lists: &mut [u16],
 ) -> Built
-    ensures { λ r. ⌜ answerOf r
+    ensures { λ r. ⌜ buildingOf r
         ≡ build (tablesOf alignment (now (buffers .entry)) (now (blases .entry)) (now (declared .entry)) (now (tlases .entry)) (now (entries .entry)) (now (geometries .entry)) (now (packages .entry)) (now (slots .entry)))
         (outputsOf (now («blas_offsets» .entry)) (now («tlas_offsets» .entry)) (now («staging_ranges» .entry)) (now (instances .entry)) (now («init_ranges» .entry)) (now (compactable .entry)) (now (lists .entry))) ⌝ }
     ensures { λ _. ⌜ outputsOf (now («blas_offsets» .exit)) (now («tlas_offsets» .exit)) (now («staging_ranges» .exit)) (now (instances .exit)) (now («init_ranges» .exit)) (now (compactable .exit)) (now (lists .exit))

@@ -1,33 +1,30 @@
 // The entry points as C functions of a static library: each forwards, and says its answer in numbers.
-use answers::AppendAnswer;
-use answers::BuildAnswer;
-use answers::ReportAnswer;
-use answers::SheetAnswer;
-use answers::append_answer;
-use answers::build_answer;
-use answers::report_answer;
-use answers::sheet_answer;
 use build::build_acceleration_structures;
+use capi_answers::append_answer;
+use capi_answers::build_answer;
+use capi_answers::report_answer;
+use capi_answers::sheet_answer;
 use instance::append_instance;
 use instance::instance_from;
+use ray_tracing::AppendAnswer;
+use ray_tracing::BuildAnswer;
+use ray_tracing::ReportAnswer;
+use ray_tracing::SheetAnswer;
 use ray_tracing::TlasId;
 use report::report;
 use sheet::read_sheet;
-use submission::CommandIndices;
-use submission::submit_numbers;
+use submit::CommandIndices;
+use submit::submit_numbers;
 ghost use mathlib.Core.Path.{_≡_};
 ghost use lib.ListN.{length};
 ghost use Rattle.ray_tracing.specs.Reading.{readSheet};
 ghost use Rattle.ray_tracing.specs.Plan as Plan;
 ghost use Rattle.ray_tracing.specs.Instances.{instanceFrom, appendRule, appendBytes};
-ghost use Rattle.ray_tracing.specs.Submission.{submission, decode};
+ghost use Rattle.ray_tracing.specs.Submission.{submission, decode, lentOf, pieceOf};
 ghost use Rattle.ray_tracing.specs.Report.{reportRule, reportBytes};
-ghost use Rattle.ray_tracing.proofs.Inside.{tablesOf};
-ghost use Rattle.actions.specs.Outcome.{lentOf};
-ghost use Rattle.submission.specs.Numbers.{pieceOf, told};
-ghost use Rattle.plan.specs.Planned.{outputsOf};
-ghost use Rattle.build.specs.Room.{outputsAfter};
-ghost use Rattle.answers.specs.Answers.{sheetAnswer, builtAnswer, appendAnswer, reportAnswer};
+ghost use Rattle.ray_tracing.specs.Plan.{tablesOf, outputsOf, outputsAfter};
+ghost use Rattle.submit.specs.Numbers.{shown};
+ghost use Rattle.ray_tracing.specs.Answers.{sheetAnswer, builtAnswer, appendAnswer, reportAnswer};
 ghost use Rattle.capi.specs.Told.{submitTold};
 
 #[repr(C)]
@@ -102,7 +99,7 @@ pub extern "C" fn zakvind_submit(
     lists: &[u16],
 ) -> SubmitAnswer
     ensures { λ r. ⌜ (submitTold r (now (indices .exit) .«next_acceleration_structure_build_command_index») (now (blases .exit)) (now (tlases .exit)) (now («dependency_counts» .exit)) (now (dependencies .exit))
-        ≡ told (submission (lentOf (now (indices .entry) .«next_acceleration_structure_build_command_index») (now (blases .entry)) (now (tlases .entry)) (now («dependency_counts» .entry)) (now (dependencies .entry))) (decode (pieceOf (now (actions .entry)) (now (lists .entry))))))
+        ≡ shown (submission (lentOf (now (indices .entry) .«next_acceleration_structure_build_command_index») (now (blases .entry)) (now (tlases .entry)) (now («dependency_counts» .entry)) (now (dependencies .entry))) (decode (pieceOf (now (actions .entry)) (now (lists .entry))))))
         × (now (indices .exit) .«active_submission_index» ≡ now (indices .entry) .«active_submission_index») ⌝ }
 {
     let counter = indices.next_acceleration_structure_build_command_index;

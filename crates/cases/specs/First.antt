@@ -9,5 +9,5 @@ abbrev pub atMost : ℕ → ℕ → ℕ
 atMost n most = cond (ltb most n) 0 n
 
 -- as many as are asked for, where there are so many; else none
-abbrev pub firstOf : ℕ → List ℕ → List ℕ
-firstOf n s = take (atMost n (length s)) s
+abbrev pub firstFew : ℕ → List ℕ → List ℕ
+firstFew n s = take (atMost n (length s)) s

@@ -5,7 +5,7 @@ ghost use mathlib.Core.Path.{_≡_};
 ghost use Prim.Native.Nat.{_*_, _≤_, _<_};
 ghost use lib.ListN.{length};
 ghost use Rattle.io.specs.Counts.{Counts};
-ghost use Rattle.cases.specs.First.{atMost, firstOf};
+ghost use Rattle.cases.specs.First.{atMost, firstFew};
 ghost use Rattle.cases.specs.Hash.{hash, hashStep};
 
 // The next n bytes of the input, put first, and how many there were: fewer at the input's end, none where there is no room for n.
@@ -94,21 +94,21 @@ fn at_most(n: usize, most: usize) -> usize
 
 // The first n, where there are so many; else none.
 pub fn first_u8(s: &mut [u8], n: usize) -> &mut [u8]
-    ensures { λ r. ⌜ now r ≡ firstOf n (now (s .entry)) ⌝ }
+    ensures { λ r. ⌜ now r ≡ firstFew n (now (s .entry)) ⌝ }
 {
     let n = at_most(n, s.len());
     &mut s[0..n]
 }
 
 pub fn first_u16(s: &mut [u16], n: usize) -> &mut [u16]
-    ensures { λ r. ⌜ now r ≡ firstOf n (now (s .entry)) ⌝ }
+    ensures { λ r. ⌜ now r ≡ firstFew n (now (s .entry)) ⌝ }
 {
     let n = at_most(n, s.len());
     &mut s[0..n]
 }
 
 pub fn first_u64(s: &mut [u64], n: usize) -> &mut [u64]
-    ensures { λ r. ⌜ now r ≡ firstOf n (now (s .entry)) ⌝ }
+    ensures { λ r. ⌜ now r ≡ firstFew n (now (s .entry)) ⌝ }
 {
     let n = at_most(n, s.len());
     &mut s[0..n]

@@ -7,9 +7,9 @@ use mathlib.Core.List.{List, [], _∷_, _++_}
 use lib.ListN.{length, take, drop, getD, length-drop}
 use lib.Seq.{take-all}
 use borrow.Author.Tests.{eq-eqb, ne-eqb}
-use Rattle.text.proofs.Laws.{rest-more, rest-none}
+use Rattle.report_text.proofs.Laws.{rest-more, rest-none}
 use Rattle.explain.specs.declared.Values.{Values}
-use Rattle.explain.specs.Lines.{letter, filled, past}
+use Rattle.explain.specs.Lines.{letter, filled, pastLines}
 
 module _ (v : Values) (t : List ℕ) (k : ℕ) where
   module _ (h : k < length t) where
@@ -26,37 +26,37 @@ module _ (v : Values) (t : List ℕ) (k : ℕ) where
   unfolding filled
   filled-none h = rw (rest-none t k h)
 
-past-nothing : (n : ℕ) → past n [] ≡ []
-unfolding past
+past-nothing : (n : ℕ) → pastLines n [] ≡ []
+unfolding pastLines
 past-nothing zero = refl
 past-nothing (suc n) = refl
 
-module _ (t : List ℕ) (k n : ℕ) (whole : List ℕ) (inv : past n (drop k t) ≡ whole) where
+module _ (t : List ℕ) (k n : ℕ) (whole : List ℕ) (inv : pastLines n (drop k t) ≡ whole) where
   pub past-none : length t ≤ k → drop k t ≡ whole
   past-none h = rest-none t k h ∙ sym (past-nothing n) ∙ rw (rest-none t k h) at inv
 
   pub past-here : n ≡ 0 → drop k t ≡ whole
-  unfolding past
+  unfolding pastLines
   past-here e = rw e at inv
 
 module _ (t : List ℕ) (k : ℕ) (h : k < length t) where
   pub past-other :
       (n : ℕ) (whole : List ℕ)
-      → past n (drop k t) ≡ whole
+      → pastLines n (drop k t) ≡ whole
       → (n ≡ 0 → ⊥)
       → (getD t k 0 ≡ 10 → ⊥)
-      → past n (drop (k + 1) t) ≡ whole
-  unfolding past
+      → pastLines n (drop (k + 1) t) ≡ whole
+  unfolding pastLines
   past-other zero whole inv z e = absurd (z refl)
   past-other (suc n) whole inv z e = rw (rest-more t k h, ne-eqb (getD t k 0) 10 e) at inv
 
   pub past-line :
       (n : ℕ) (whole : List ℕ)
-      → past n (drop k t) ≡ whole
+      → pastLines n (drop k t) ≡ whole
       → (n ≡ 0 → ⊥)
       → getD t k 0 ≡ 10
-      → past (n - 1) (drop (k + 1) t) ≡ whole
-  unfolding past
+      → pastLines (n - 1) (drop (k + 1) t) ≡ whole
+  unfolding pastLines
   past-line zero whole inv z e = absurd (z refl)
   past-line (suc n) whole inv z e = rw sub-one (rw (rest-more t k h, eq-eqb (getD t k 0) 10 e) at inv)
 

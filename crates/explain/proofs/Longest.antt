@@ -9,7 +9,7 @@ use lib.Dec.{T, leb, leb→le, lit≤}
 use lib.ListN.{length, take, getD, length-append}
 use borrow.Author.Tests.{le-ltb}
 use Rattle.ray_tracing.specs.Causes.{Cause}
-use Rattle.ray_tracing.specs.Reading.{longest}
+use Rattle.ray_tracing.specs.Sizes.{longest}
 use Rattle.ray_tracing.specs.Report.{ascii, reporting}
 use Rattle.ray_tracing.specs.Explain.{
   Refusal,
@@ -33,7 +33,7 @@ use Rattle.ray_tracing.specs.Explain.{
   explained,
   explainRule,
 }
-use Rattle.text.proofs.Laws.{digits-most}
+use Rattle.report_text.proofs.Laws.{digits-most}
 use Rattle.report.proofs.Lengths.{report-most, prefix-tells, report-prefix}
 use Rattle.explain.specs.Longest.{longestItem, longestExplanation, longestExplained}
 

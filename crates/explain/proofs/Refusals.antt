@@ -33,7 +33,7 @@ use Rattle.explain.specs.Lines.{
   kindBytes,
   letter,
   filled,
-  past,
+  pastLines,
   sheetLines,
   buildLines,
   actionLines,
@@ -65,9 +65,9 @@ valuesOf kind e f x y z = record { kind = kind; e = e; f = f; x = x; y = y; z = 
 
 sheet-line :
     (e : SheetError) (place : ℕ)
-    → filled (valuesOf 0 place 0 0 0 0) (past (sheetNumber e) sheetLines)
+    → filled (valuesOf 0 place 0 0 0 0) (pastLines (sheetNumber e) sheetLines)
     ≡ begun (sheetNumber e) (itemsThen ("byte" is place ∷ []) (10 ∷ []))
-unfolding letter filled past sheetLines digits
+unfolding letter filled pastLines sheetLines digits
 sheet-line sheet.UnknownVersion place = refl
 sheet-line sheet.Truncated place = refl
 sheet-line sheet.TrailingBytes place = refl
@@ -77,7 +77,7 @@ sheet-line sheet.InvalidValue place = refl
 pub sheet-is :
     (e : SheetError) (place : ℕ) {n : ℕ}
     → n ≡ sheetNumber e
-    → filled (valuesOf 0 place 0 0 0 0) (past n sheetLines) ≡ explanation (of-sheet (sheetNumber e) place)
+    → filled (valuesOf 0 place 0 0 0 0) (pastLines n sheetLines) ≡ explanation (of-sheet (sheetNumber e) place)
 unfolding explanation
 sheet-is e place h = rw h (sheet-line e place ∙ sym (line-is (sheetNumber e) ("byte" is place ∷ [])))
 
@@ -86,10 +86,10 @@ buildValues c e g = valuesOf 0 e g (c .first) (c .second) (c .third)
 
 build-line :
     (error : BuildAccelerationStructureError) (e g : ℕ)
-    → filled (buildValues (buildCause error) e g) (past (placeOfBuild (buildCause error)) buildLines)
+    → filled (buildValues (buildCause error) e g) (pastLines (placeOfBuild (buildCause error)) buildLines)
     ≡ begun (buildCause error .number)
     (itemsThen (placeItems (buildCause error) e g ++ figureItems (buildCause error)) (10 ∷ []))
-unfolding letter filled past buildLines digits
+unfolding letter filled pastLines buildLines digits
 build-line build.TooMany e g = refl
 build-line build.InvalidValue e g = refl
 build-line build.InvalidResource e g = refl
@@ -130,7 +130,7 @@ pub build-is :
     (error : BuildAccelerationStructureError) (e g : ℕ) {n : ℕ} {c : Cause}
     → c ≡ buildCause error
     → n ≡ placeOfBuild c
-    → filled (buildValues c e g) (past n buildLines) ≡ explanation (of-build e g (buildCause error))
+    → filled (buildValues c e g) (pastLines n buildLines) ≡ explanation (of-build e g (buildCause error))
 unfolding explanation
 build-is error e g h k =
     rw (k, h)
@@ -167,17 +167,17 @@ actionValues c i kind = valuesOf kind i 0 (c .first) (c .second) 0
 -- 42, in a use or not
 unbuilt :
     (used : Bool) (kind i x y : ℕ)
-    → filled (valuesOf kind i 0 x y 0) (past (cond used 10 7) actionLines)
+    → filled (valuesOf kind i 0 x y 0) (pastLines (cond used 10 7) actionLines)
     ≡ acted 42 i kind (cond used ("Tlas" is x ∷ "Blas" is y ∷ []) ("Blas" is x ∷ "Tlas" is y ∷ []))
-unfolding letter filled past actionLines digits
+unfolding letter filled pastLines actionLines digits
 unbuilt true kind i x y = refl
 unbuilt false kind i x y = refl
 
 action-line :
     (error : ValidateAsActionsError) (i kind : ℕ)
-    → filled (actionValues (submissionCause error) i kind) (past (placeOfAction error kind) actionLines)
+    → filled (actionValues (submissionCause error) i kind) (pastLines (placeOfAction error kind) actionLines)
     ≡ acted (submissionCause error .number) i kind (actionItems kind (submissionCause error))
-unfolding letter filled past actionLines digits
+unfolding letter filled pastLines actionLines digits
 action-line submission.TooMany i kind = refl
 action-line submission.InvalidValue i kind = refl
 action-line submission.InvalidResource i kind = refl
@@ -194,7 +194,7 @@ pub action-is :
     (error : ValidateAsActionsError) (i kind : ℕ) {n : ℕ} {c : Cause}
     → c ≡ submissionCause error
     → n ≡ placeOfAction error kind
-    → filled (actionValues c i kind) (past n actionLines) ≡ explanation (of-action i kind (submissionCause error))
+    → filled (actionValues c i kind) (pastLines n actionLines) ≡ explanation (of-action i kind (submissionCause error))
 unfolding explanation
 action-is error i kind h k =
     let c = submissionCause error in

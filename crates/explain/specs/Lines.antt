@@ -32,10 +32,10 @@ filled v [] = []
 filled v (b ∷ t) = letter v b ++ cond (eqb b 10) [] (filled v t)
 
 -- the text past its first n lines
-unfoldable pub past : ℕ → List ℕ → List ℕ
-past zero t = t
-past (suc n) [] = []
-past (suc n) (b ∷ t) = cond (eqb b 10) (past n t) (past (suc n) t)
+unfoldable pub pastLines : ℕ → List ℕ → List ℕ
+pastLines zero t = t
+pastLines (suc n) [] = []
+pastLines (suc n) (b ∷ t) = cond (eqb b 10) (pastLines n t) (pastLines (suc n) t)
 
 -- The lines, from the table's words
 
@@ -60,18 +60,18 @@ unfoldable pub sheetLines : List ℕ
 sheetLines = 10 ∷ linesFrom sheetLine 1 5
 
 -- with a first figure, a letter or a sort
-abbrev pub buildLine : ℕ → ℕ → List ℕ
-buildLine first n = lineOf n (placeItems (cause n first 89 90) 69 70 ++ figureItems (cause n first 89 90))
+abbrev pub buildText : ℕ → ℕ → List ℕ
+buildText first n = lineOf n (placeItems (cause n first 89 90) 69 70 ++ figureItems (cause n first 89 90))
 
 -- line n is number n's; the last two are 21 of a Blas and of a Tlas
 unfoldable pub buildLines : List ℕ
 buildLines =
     ascii "\n\n\n\n"
-    ++ (linesFrom (buildLine 88) 4 3
+    ++ (linesFrom (buildText 88) 4 3
     ++ (ascii "\n\n\n"
-    ++ (linesFrom (buildLine 88) 10 11
-    ++ (linesFrom (buildLine 1) 21 2
-    ++ (linesFrom (buildLine 88) 23 17 ++ (buildLine 2 21 ++ buildLine 3 21))))))
+    ++ (linesFrom (buildText 88) 10 11
+    ++ (linesFrom (buildText 1) 21 2
+    ++ (linesFrom (buildText 88) 23 17 ++ (buildText 2 21 ++ buildText 3 21))))))
 
 -- of an action of a kind
 abbrev pub actionLine : ℕ → ℕ → List ℕ

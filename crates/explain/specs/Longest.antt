@@ -2,7 +2,8 @@
 use Prim.Native.Nat.{ℕ, _+_, _*_}
 use Prim.Native.String.{String}
 use lib.ListN.{length}
-use Rattle.ray_tracing.specs.Report.{ascii, longestReport}
+use Rattle.ray_tracing.specs.Report.{ascii}
+use Rattle.ray_tracing.specs.Sizes.{longestReport}
 use Rattle.ray_tracing.specs.Explain.{causeWords}
 
 -- a comma, a space, the word, a space, a number

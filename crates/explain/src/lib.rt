@@ -9,10 +9,10 @@ use ray_tracing::SheetError;
 use ray_tracing::ValidateAsActionsError;
 use ray_tracing::pick;
 use report::put_report;
-use submit_lines::Refusal;
-use text::put;
-use text::put_byte;
-use text::put_decimal;
+use report_submit::Refusal;
+use report_text::put;
+use report_text::put_byte;
+use report_text::put_decimal;
 ghost use mathlib.Core.Path.{_≡_};
 ghost use Prim.Native.Nat.{_+_, _≤_};
 ghost use lib.ListN.{length, drop};
@@ -20,9 +20,9 @@ ghost use Rattle.ray_tracing.specs.Causes.{sheetNumber, buildCause, submissionC
 ghost use Rattle.ray_tracing.specs.Report.{reportedOf};
 ghost use Rattle.ray_tracing.specs.Explain.{of-sheet, of-build, of-action, explanation, explained, explainRule, explainBytes};
 ghost use Rattle.causes.specs.Figures.{causeOf};
-ghost use Rattle.text.specs.Put.{Put};
-ghost use Rattle.submit_lines.specs.Refused.{refusalOf};
-ghost use Rattle.explain.specs.Lines.{kindBytes, letter, filled, past, sheetLines, buildLines, actionLines, placeOfBuild, placeOfAction};
+ghost use Rattle.report_text.specs.Put.{Put};
+ghost use Rattle.report_submit.specs.Refused.{refusalOf};
+ghost use Rattle.explain.specs.Lines.{kindBytes, letter, filled, pastLines, sheetLines, buildLines, actionLines, placeOfBuild, placeOfAction};
 
 // What the letters of a line stand for: K the kind of an action; E and F a place, a byte's or an action's being E alone; X, Y and Z the
 // figures.
@@ -83,7 +83,7 @@ fn put_filled(out: &mut [u8], at: usize, text: &[u8], v: Values) -> usize
 
 // Where the text's line n begins.
 fn line_start(text: &[u8], n: usize) -> usize
-    ensures { λ r. ⌜ (r ≤ length (now (text .entry))) × (drop r (now (text .entry)) ≡ past n (now (text .entry))) ⌝ }
+    ensures { λ r. ⌜ (r ≤ length (now (text .entry))) × (drop r (now (text .entry)) ≡ pastLines n (now (text .entry))) ⌝ }
 {
     let mut left = n;
     let mut k: usize = 0;
@@ -102,8 +102,8 @@ fn line_start(text: &[u8], n: usize) -> usize
 }
 
 fn put_line_of(out: &mut [u8], at: usize, text: &[u8], n: usize, v: Values) -> usize
-    requires { ⌜ at + length (filled v (past n (now text))) + 20 ≤ length (now out) ⌝ }
-    ensures { λ r. ⌜ Put (now (out .entry)) at (filled v (past n (now (text .entry)))) r (now (out .exit)) ⌝ }
+    requires { ⌜ at + length (filled v (pastLines n (now text))) + 20 ≤ length (now out) ⌝ }
+    ensures { λ r. ⌜ Put (now (out .entry)) at (filled v (pastLines n (now (text .entry)))) r (now (out .exit)) ⌝ }
 {
     let start = line_start(text, n);
     put_filled(out, at, &text[start..], v)
@@ -111,8 +111,8 @@ fn put_line_of(out: &mut [u8], at: usize, text: &[u8], n: usize, v: Values) -> u
 
 // Line n is that of number n.
 fn put_sheet_line(out: &mut [u8], at: usize, n: usize, v: Values) -> usize
-    requires { ⌜ at + length (filled v (past n sheetLines)) + 20 ≤ length (now out) ⌝ }
-    ensures { λ r. ⌜ Put (now (out .entry)) at (filled v (past n sheetLines)) r (now (out .exit)) ⌝ }
+    requires { ⌜ at + length (filled v (pastLines n sheetLines)) + 20 ≤ length (now out) ⌝ }
+    ensures { λ r. ⌜ Put (now (out .entry)) at (filled v (pastLines n sheetLines)) r (now (out .exit)) ⌝ }
 {
     let lines = b"
 refused 1: version not 1, byte E
@@ -126,8 +126,8 @@ refused 5: value outside its field, byte E
 
 // Line n is that of number n; the last two are 21 of a Blas and of a Tlas.
 fn put_build_line(out: &mut [u8], at: usize, n: usize, v: Values) -> usize
-    requires { ⌜ at + length (filled v (past n buildLines)) + 20 ≤ length (now out) ⌝ }
-    ensures { λ r. ⌜ Put (now (out .entry)) at (filled v (past n buildLines)) r (now (out .exit)) ⌝ }
+    requires { ⌜ at + length (filled v (pastLines n buildLines)) + 20 ≤ length (now out) ⌝ }
+    ensures { λ r. ⌜ Put (now (out .entry)) at (filled v (pastLines n buildLines)) r (now (out .exit)) ⌝ }
 {
     let lines = b"
 
@@ -177,8 +177,8 @@ refused 21: destroyed, package E, Tlas Y
 
 // The last is 42 in a use.
 fn put_action_line(out: &mut [u8], at: usize, n: usize, v: Values) -> usize
-    requires { ⌜ at + length (filled v (past n actionLines)) + 20 ≤ length (now out) ⌝ }
-    ensures { λ r. ⌜ Put (now (out .entry)) at (filled v (past n actionLines)) r (now (out .exit)) ⌝ }
+    requires { ⌜ at + length (filled v (pastLines n actionLines)) + 20 ≤ length (now out) ⌝ }
+    ensures { λ r. ⌜ Put (now (out .entry)) at (filled v (pastLines n actionLines)) r (now (out .exit)) ⌝ }
 {
     let lines = b"refused 4: count above its limit, K at action E
 refused 5: value outside its field, K at action E

@@ -22,7 +22,8 @@ use Rattle.ray_tracing.specs.Guard.{refuse}
 use Rattle.ray_tracing.specs.Records.{fieldAt}
 use Rattle.ray_tracing.specs.Causes.{Cause, bare, buildCause}
 use Rattle.ray_tracing.specs.Mentions.{_else_, blasMention, tlasMention, blasOf, tlasOf}
-use Rattle.ray_tracing.specs.Instances.{words, instanceBytes, returnsVertices, instanceRule, namedInstanceRule, addressFor, slotMention, slotRule, instanceCause, Appending, inUse, refused, namedTlasRule, roomRule, outcome, appendRule, bytesAfter, appendBytes}
+use Rattle.ray_tracing.specs.Instances.{words, instanceBytes, returnsVertices, instanceRule, namedInstanceRule, addressFor, slotMention, slotRule, Appending, inUse, refused, namedTlasRule, roomRule, outcome, appendRule, bytesAfter, appendBytes}
+use Rattle.ray_tracing.specs.Code.{instanceCause}
 use Rattle.ray_tracing.proofs.Causes.{positive}
 use Rattle.ray_tracing.proofs.Mentions.{mention-inside, else-zero}
 use Rattle.instance.specs.Writable.{Writable}

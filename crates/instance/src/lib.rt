@@ -26,8 +26,9 @@ ghost use lib.Seq.{sets};
 ghost use lib.Ieee.{binary32, ofBits, nanBits};
 ghost use Rattle.ray_tracing.specs.Records.{fieldAt};
 ghost use Rattle.ray_tracing.specs.Causes.{bare};
-ghost use Rattle.ray_tracing.specs.Mentions.{mentionOf, blasOf};
-ghost use Rattle.ray_tracing.specs.Instances.{nanOf, bitsOf, patterns, words, tailBytes, instanceBytes, instanceFrom, presentAt, slotBytes, slotsBytes, presentOf, returnsVertices, instanceRule, namedInstanceRule, namedTlasRule, slotMention, slotRule, instanceCause, appendedOf, appendRule, appendBytes};
+ghost use Rattle.ray_tracing.specs.Mentions.{blasOf};
+ghost use Rattle.ray_tracing.specs.Code.{mentionOf, instanceCause};
+ghost use Rattle.ray_tracing.specs.Instances.{nanOf, bitsOf, patterns, words, tailBytes, instanceBytes, instanceFrom, presentAt, slotBytes, slotsBytes, presentOf, returnsVertices, instanceRule, namedInstanceRule, namedTlasRule, slotMention, slotRule, appendedOf, appendRule, appendBytes};
 ghost use Rattle.instance.specs.Writable.{Writable};
 
 // A number, and the pattern that it was read from where that is a NaN's, else 0.

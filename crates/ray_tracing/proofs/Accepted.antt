@@ -8,14 +8,13 @@ use lib.Dec.{lit<}
 use borrow.Author.Tests.{ne-eqb}
 use Rattle.ray_tracing.specs.declared.Sheet.{Sheet}
 use Rattle.ray_tracing.specs.Layout.{size}
-use Rattle.ray_tracing.specs.Reading.{accepted, readSheet}
-use Rattle.ray_tracing.specs.Writing.{table, tablesOf}
-use Rattle.ray_tracing.specs.Plan.{passed, firstOf, judgeTables}
+use Rattle.ray_tracing.specs.Reading.{accepted, readSheet, table}
+use Rattle.ray_tracing.specs.Plan.{sheetTables, passed, firstOf, judgeTables}
 use Rattle.ray_tracing.specs.Submission.{Lent, judgeBlases, judgeTlases}
 use Rattle.ray_tracing.proofs.Sheets.{accepted-alignment, accepted-lent, accepted-apart}
 
 module _ (s : List ℕ) (x : Sheet) (e : readSheet s ≡ accepted x) where
-  pub build-takes : judgeTables (tablesOf (x .alignment) (table s)) ≡ passed
+  pub build-takes : judgeTables (sheetTables (x .alignment) (table s)) ≡ passed
   unfolding judgeTables firstOf
   build-takes =
       let a = accepted-alignment s x e in

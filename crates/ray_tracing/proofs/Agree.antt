@@ -15,8 +15,7 @@ use Rattle.ray_tracing.specs.declared.Blas.{Blas}
 use Rattle.ray_tracing.specs.declared.Tlas.{Tlas}
 use Rattle.ray_tracing.specs.Layout.{size}
 use Rattle.ray_tracing.specs.Causes.{Cause, cause}
-use Rattle.ray_tracing.specs.Submission.{Lent, Package, Action, build, useTlas, malformed, Outcome, accepted, refused, _leaving_, left, _then_, later, unless, on, _or_, first}
-use Rattle.ray_tracing.specs.Submission.{blasCount, tlasCount, blasIn, tlasIn, listIn, blas, tlas, dependenciesOf, mentionPackage, compacted, before, buildBlases, buildTlases, unusableBlas, unusable, act, step, run}
+use Rattle.ray_tracing.specs.Submission.{Lent, Package, Action, build, useTlas, malformed, Outcome, accepted, refused, _leaving_, left, _followedBy_, later, unlessCause, causeWhen, _orElse_, first, blasCount, tlasCount, blasIn, tlasIn, listIn, blas, tlas, dependenciesOf, mentionPackage, compacted, before, buildBlases, buildTlases, unusableBlas, unusable, act, step, run}
 use Rattle.ray_tracing.specs.History.{every, whileHolds, among, Built, next, blasNumber, blasState, known, listed, cellListed, Latest, builtWith, latest, cell, blasBy, tlasBy, usable, usableBlas, allowed, Told, passed, stopped, log, told, andThen, listsKnown, acts, tellAction, tellActions}
 use Rattle.ray_tracing.specs.Claim.{ByHistory}
 use Rattle.ray_tracing.proofs.Tables.{blasWith, tlasWith}
@@ -218,7 +217,7 @@ unusable-usable l h r a t =
     each b =
         isNone-on-or (eqb (blas r b .«built_index») 0) _ _
         ∙ ap (λ (x : Bool). not (eqb (blas r b .«built_index») 0) && x)
-        (isNone-on-or (ltb (tlas r t .«built_index») (blas r b .«built_index»)) _ (on (eqb (blas r b .destroyed) 1) (cause 21 b 0 0))
+        (isNone-on-or (ltb (tlas r t .«built_index») (blas r b .«built_index»)) _ (causeWhen (eqb (blas r b .destroyed) 1) (cause 21 b 0 0))
         ∙ (λ i. not-ltb (tlas r t .«built_index») (blas r b .«built_index») i && isNone-on (eqb (blas r b .destroyed) 1) (cause 21 b 0 0) i))
 
 -- ---- an action
@@ -233,14 +232,14 @@ step-same l h r g a =
     go a (before r a) (allowed l h a) refl
     (before-allowed l h r (ap (λ (n : ℕ). n / size 2) (g .by .blasBytes)) (ap (λ (n : ℕ). n / size 4) (g .by .tlasBytes)) (g .by .counter) (g .still) a)
   where
-    a-use : (c : Option Cause) (b : Bool) → isNone c ≡ b → Same l (told b h) (unless c r (accepted leaving r))
+    a-use : (c : Option Cause) (b : Bool) → isNone c ≡ b → Same l (told b h) (unlessCause c r (accepted leaving r))
     a-use none true e = g
     a-use (some c) false e = g
     a-use none false e = let z : _≡_ {A = ℕ} 0 1 = cc in absurd (omega arith)
     a-use (some c) true e = let z : _≡_ {A = ℕ} 0 1 = cc in absurd (omega arith)
 
     go : (a : Action) (c : Option Cause) (b : Bool) → before r a ≡ c → isNone c ≡ b
-        → Same l (elim b [ true ↦ acts l h a | false ↦ stopped h ]) (unless c r (act r a))
+        → Same l (elim b [ true ↦ acts l h a | false ↦ stopped h ]) (unlessCause c r (act r a))
     go (build bs ps) none true e d = build-same l h r g bs ps (fit r bs ps e)
     go (useTlas t) none true e d = a-use (unusable r t) (usable l h t) (unusable-usable l h r g t)
     go malformed none true e d = absurd (malformed-refused r e)
@@ -251,7 +250,7 @@ step-same l h r g a =
 -- ---- a submission's actions
 
 same-then : (l : Lent) (x : Told) (o : Outcome) (f : List Built → Told) (g : Lent → Outcome) → Same l x o
-    → ((h : List Built) (r : Lent) → Agree l h r → Same l (f h) (g r)) → Same l (andThen x f) (o then g)
+    → ((h : List Built) (r : Lent) → Agree l h r → Same l (f h) (g r)) → Same l (andThen x f) (o followedBy g)
 same-then l (passed h) (accepted leaving r) f g a k = k h r a
 same-then l (stopped h) (refused i c leaving r) f g a k = a
 same-then l (passed h) (refused i c leaving r) f g a k = absurd a

@@ -9,7 +9,7 @@ use lib.ListN.{length}
 use lib.Dec.{eqb, leb, ltb}
 use borrow.Author.Tests.{ltb-true, leb-true, lt-ltb, le-leb, lt-leb, not-true}
 use Rattle.ray_tracing.specs.Causes.{Cause, cause, bare}
-use Rattle.ray_tracing.specs.Submission.{Lent, Package, Action, build, useTlas, malformed, on, _or_, first, blasCount, tlasCount, blas, mentionBlas, mentionTlas, mentionPackage, tooMany, compacted, before}
+use Rattle.ray_tracing.specs.Submission.{Lent, Package, Action, build, useTlas, malformed, causeWhen, _orElse_, first, blasCount, tlasCount, blas, mentionBlas, mentionTlas, mentionPackage, tooMany, compacted, before}
 use Rattle.ray_tracing.specs.History.{every, Built, next, listAllowed, packageAllowed, allowed}
 use Rattle.ray_tracing.proofs.Firsts.{or-none, none-or, on-none, outside, inside, inside-none, within, within-none, isNone}
 
@@ -42,10 +42,10 @@ module _ {A : Type 0} where
 in-none : (n i : ℕ) → ltb i n ≡ true → outside n i ≡ none
 in-none n i e = inside-none n i (ltb-true i n e)
 
-on-of : (t : Bool) (c : Cause) → not t ≡ true → on t c ≡ none
+on-of : (t : Bool) (c : Cause) → not t ≡ true → causeWhen t c ≡ none
 on-of t c e = rw (not-true t e)
 
-not-of : (t : Bool) (c : Cause) → on t c ≡ none → not t ≡ true
+not-of : (t : Bool) (c : Cause) → causeWhen t c ≡ none → not t ≡ true
 not-of t c e = rw (on-none t c e)
 
 -- l: the start, h: the log; r: the tables that go with it
@@ -64,7 +64,7 @@ module _ (l : Lent) (h : List Built) (r : Lent) (nb : blasCount r ≡ blasCount 
   in-ids ids e = first-of (mentionBlas r) (λ i. ltb i (blasCount l)) in-blas ids e
 
   abbrev long : Package → Option Cause
-  long p = on (ltb 512 (length (p .dependencies))) (bare 4)
+  long p = causeWhen (ltb 512 (length (p .dependencies))) (bare 4)
 
   package-in : (p : Package) → long p ≡ none → mentionPackage r p ≡ none → packageAllowed l p ≡ true
   package-in p e d =
@@ -92,9 +92,9 @@ module _ (l : Lent) (h : List Built) (r : Lent) (nb : blasCount r ≡ blasCount 
       let a = or-none (tooMany bs ps) _ e in
       let b = or-none (first (mentionBlas r) bs) _ (a .1) in
       let d = or-none (first (mentionPackage r) ps) _ (b .1) in
-      let f = or-none (on (eqb (r .counter) 0) (bare 40)) _ (d .1) in
-      let x = or-none (on (ltb 64 (length bs)) (bare 4)) _ (a .0) in
-      let y = or-none (on (ltb 32 (length ps)) (bare 4)) _ (x .1) in
+      let f = or-none (causeWhen (eqb (r .counter) 0) (bare 40)) _ (d .1) in
+      let x = or-none (causeWhen (ltb 64 (length bs)) (bare 4)) _ (a .0) in
+      let y = or-none (causeWhen (ltb 32 (length ps)) (bare 4)) _ (x .1) in
       true-and
       (true-and (true-and
       (true-and (le-leb (length bs) 64 (within 64 (length bs) (bare 4) (x .0))) (ids-in bs (b .0)))

@@ -16,9 +16,8 @@ use Rattle.ray_tracing.specs.declared.Blas.{Blas}
 use Rattle.ray_tracing.specs.declared.Tlas.{Tlas}
 use Rattle.ray_tracing.specs.Layout.{size}
 use Rattle.ray_tracing.specs.Causes.{Cause, bare}
-use Rattle.ray_tracing.specs.Submission.{Lent, Package, Outcome, accepted, refused, _leaving_, unless, on, _or_, first}
-use Rattle.ray_tracing.specs.Submission.{blasCount, tlasCount, blasIn, tlasIn, listIn, blas, tlas, dependenciesOf, mentionTlas, mentionPackage, builtBlas, builtBlases, builtTlas, buildTlas, unnumbered, buildTlases}
-use Rattle.ray_tracing.specs.History.{every, whileHolds, among, firstOf, listed, cellListed}
+use Rattle.ray_tracing.specs.Submission.{Lent, Package, Outcome, accepted, refused, _leaving_, unlessCause, causeWhen, _orElse_, first, blasCount, tlasCount, blasIn, tlasIn, listIn, blas, tlas, dependenciesOf, mentionTlas, mentionPackage, builtBlas, builtBlases, builtTlas, buildTlas, unnumbered, buildTlases}
+use Rattle.ray_tracing.specs.History.{every, whileHolds, among, firstGiven, listed, cellListed}
 use Rattle.ray_tracing.proofs.Tables.{blasWith, tlasWith, built-length, built-other, built-same, tlas-length, tlas-other, tlas-same}
 use Rattle.ray_tracing.proofs.Firsts.{or-none, outside, inside, within, isNone, isNone-on, isNone-first}
 use Rattle.ray_tracing.proofs.Sound.{Sound, sound-tlas, tlas-list, other-list, mention-kept}
@@ -128,12 +127,12 @@ module _ (n : ℕ) (p : Package) (l : Lent) (f : n < 2 ^ 64) (m : mentionPackage
       }
 
 -- one after the other
-tlas-first : (x y : Option (List ℕ)) (n : ℕ) (r : Tlas) → tlasIf x n (tlasIf y n r) ≡ tlasIf (firstOf x y) n r
+tlas-first : (x y : Option (List ℕ)) (n : ℕ) (r : Tlas) → tlasIf x n (tlasIf y n r) ≡ tlasIf (firstGiven x y) n r
 tlas-first none y n r = refl
 tlas-first (some d) none n r = refl
 tlas-first (some d) (some e) n r = refl
 
-getD-first : {A : Type 0} (x y : Option A) (d : A) → Option·getD x (Option·getD y d) ≡ Option·getD (firstOf x y) d
+getD-first : {A : Type 0} (x y : Option A) (d : A) → Option·getD x (Option·getD y d) ≡ Option·getD (firstGiven x y) d
 getD-first none y d = refl
 getD-first (some x) y d = refl
 
@@ -153,7 +152,7 @@ put-then n p ps l q r a b =
       sound = b .sound;
     }
 
-pub put-is : (n : ℕ) (ps : List Package) (l : Lent) → n < 2 ^ 64 → first (λ p. on (ltb 512 (length (p .dependencies))) (bare 4)) ps ≡ none
+pub put-is : (n : ℕ) (ps : List Package) (l : Lent) → n < 2 ^ 64 → first (λ p. causeWhen (ltb 512 (length (p .dependencies))) (bare 4)) ps ≡ none
     → first (mentionPackage l) ps ≡ none → Sound l → Put n ps l (put n ps l)
 put-is n [] l f s m h =
     record {
@@ -170,7 +169,7 @@ put-is n [] l f s m h =
       sound = h;
     }
 put-is n (p ∷ ps) l f s m h =
-    let a = or-none (on (ltb 512 (length (p .dependencies))) (bare 4)) _ s in
+    let a = or-none (causeWhen (ltb 512 (length (p .dependencies))) (bare 4)) _ s in
     let b = or-none (mentionPackage l p) _ m in
     let one = one-put n p l f (b .0) (within 512 (length (p .dependencies)) (bare 4) (a .0)) h in
     put-then n p ps l (buildTlas n p l) (put n ps (buildTlas n p l)) one (put-is n ps (buildTlas n p l) f (a .1) (mention-kept n p l ps (b .1)) (one .sound))
@@ -194,7 +193,7 @@ tlases-is n (p ∷ ps) l t g = go (first (unnumbered l (p .tlas)) (p .dependenci
 
     go : (c : Option Cause) (b : Bool) → isNone c ≡ b
         → Is (every t ps) (put n (whileHolds t ps) (buildTlas n p l)) (buildTlases n ps (buildTlas n p l))
-        → Is (b && every t ps) (put n (elim b [ true ↦ p ∷ whileHolds t ps | false ↦ [] ]) l) (unless c l (buildTlases n ps (buildTlas n p l)))
+        → Is (b && every t ps) (put n (elim b [ true ↦ p ∷ whileHolds t ps | false ↦ [] ]) l) (unlessCause c l (buildTlases n ps (buildTlas n p l)))
     go none true e h = h
     go none false e h = let z : _≡_ {A = ℕ} 0 1 = cc in absurd (omega arith)
     go (some c) true e h = let z : _≡_ {A = ℕ} 0 1 = cc in absurd (omega arith)

@@ -12,8 +12,9 @@ use lib.ListN.{length, take, drop, getD, length-append, length-drop, List·getD-
 use lib.Seq.{drop-cons, drop-append-le, take-append-le}
 use lib.Dec.{leb, eqb}
 use borrow.Author.Tests.{leb-true, le-leb}
-use Rattle.ray_tracing.specs.Submission.{Lent, Piece, Package, Action, build, useTlas, markBlas, markTlas, malformed, Outcome, judge, submission, packageAt, pastPackage, packagesAt, packagesLent, buildAt, action, decodeCells, decode}
-use Rattle.ray_tracing.specs.Claim.{Each, Cut, Sent, Fits}
+use Rattle.ray_tracing.specs.Submission.{Lent, Piece, Package, Action, build, useTlas, markBlas, markTlas, malformed, Outcome, judge, submission, packageFrom, pastPackage, packagesAt, packagesLent, buildAt, action, decodeCells, decode}
+use Rattle.ray_tracing.specs.Claim.{Each, Cut, Fits}
+use Rattle.ray_tracing.proofs.Outcomes.{OutcomeSent}
 use Rattle.ray_tracing.proofs.Demand3.{demand-3}
 
 -- ---- cells by index
@@ -80,7 +81,7 @@ cut-of-cells lists (s ∷ parts) last w =
 
 -- and so demand 3's first half, of such a cut
 pub cuts-of-cells : (l : Lent) → Fits l → judge l ≡ none → (lists : List ℕ) (parts : List (List ℕ)) (last : List ℕ) → Each (λ s. length s % 4 ≡ 0) parts
-    → (o : Outcome) → Sent l (map (over lists) (parts ++ last ∷ [])) o → o ≡ submission l (decode (over lists (flatten parts ++ last)))
+    → (o : Outcome) → OutcomeSent l (map (over lists) (parts ++ last ∷ [])) o → o ≡ submission l (decode (over lists (flatten parts ++ last)))
 cuts-of-cells l f j lists parts last w o s =
     demand-3 l f j .cuts (over lists (flatten parts ++ last)) (map (over lists) (parts ++ last ∷ [])) (cut-of-cells lists parts last w) o s
 
@@ -95,7 +96,7 @@ module _ (lists more : List ℕ) where
   past-longer : (at : ℕ) → pastPackage lists at ≤ length lists → pastPackage (lists ++ more) at ≡ pastPackage lists at
   past-longer at h = ap (λ (n : ℕ). at + 2 + n) (List·getD-append lists more 0 (at + 1) (omega arith))
 
-  package-longer : (at : ℕ) → pastPackage lists at ≤ length lists → packageAt (lists ++ more) at ≡ packageAt lists at
+  package-longer : (at : ℕ) → pastPackage lists at ≤ length lists → packageFrom (lists ++ more) at ≡ packageFrom lists at
   package-longer at h =
       let n : getD (lists ++ more) (at + 1) 0 ≡ getD lists (at + 1) 0 = List·getD-append lists more 0 (at + 1) (omega arith) in
       let t : getD (lists ++ more) at 0 ≡ getD lists at 0 = List·getD-append lists more 0 at (omega arith) in
@@ -113,7 +114,7 @@ module _ (lists more : List ℕ) where
           → (packagesLent lists (pastPackage lists at) n ≡ true
           → (packagesLent (lists ++ more) (pastPackage lists at) n ≡ true) × (packagesAt (lists ++ more) (pastPackage lists at) n ≡ packagesAt lists (pastPackage lists at) n))
           → (elim (leb (pastPackage (lists ++ more) at) (length (lists ++ more))) [ true ↦ packagesLent (lists ++ more) (pastPackage (lists ++ more) at) n | false ↦ false ] ≡ true)
-          × (packageAt (lists ++ more) at ∷ packagesAt (lists ++ more) (pastPackage (lists ++ more) at) n ≡ packageAt lists at ∷ packagesAt lists (pastPackage lists at) n)
+          × (packageFrom (lists ++ more) at ∷ packagesAt (lists ++ more) (pastPackage (lists ++ more) at) n ≡ packageFrom lists at ∷ packagesAt lists (pastPackage lists at) n)
       go true q e k =
           let h = leb-true (pastPackage lists at) (length lists) q in
           let r = k e in
@@ -122,7 +123,7 @@ module _ (lists more : List ℕ) where
             (λ i. elim (leb (p i) (length (lists ++ more))) [ true ↦ packagesLent (lists ++ more) (p i) n | false ↦ false ])
                 ∙ ap (λ (b : Bool). elim b [ true ↦ packagesLent (lists ++ more) (pastPackage lists at) n | false ↦ false ]) w
                 ∙ r .0,
-            (λ i. package-longer at h i ∷ packagesAt (lists ++ more) (p i) n) ∙ ap (λ (x : List Package). packageAt lists at ∷ x) (r .1),
+            (λ i. package-longer at h i ∷ packagesAt (lists ++ more) (p i) n) ∙ ap (λ (x : List Package). packageFrom lists at ∷ x) (r .1),
           )
       go false q e k = let z : _≡_ {A = ℕ} 0 1 = cc in absurd (omega arith)
 

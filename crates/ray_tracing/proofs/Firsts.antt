@@ -10,19 +10,19 @@ use lib.Dec.{eqb, leb, ltb}
 use borrow.Author.Tests.{ltb-true, ltb-false, leb-true, leb-false, eqb-true, le-leb, lt-leb, lt-ltb, le-ltb}
 use Rattle.ray_tracing.specs.Guard.{refuse}
 use Rattle.ray_tracing.specs.Causes.{Cause}
-use Rattle.ray_tracing.specs.Submission.{Lent, Answer, accepted, refused, Outcome, _leaving_, left, _then_, later, unless, on, _or_, first, mentioned}
+use Rattle.ray_tracing.specs.Submission.{Lent, Answer, accepted, refused, Outcome, _leaving_, left, _followedBy_, later, unlessCause, causeWhen, _orElse_, first, mentioned}
 use Rattle.ray_tracing.specs.History.{every, whileHolds, among}
 
 -- ---- causes
 
-pub or-none : (c d : Option Cause) → c or d ≡ none → (c ≡ none) × (d ≡ none)
+pub or-none : (c d : Option Cause) → c orElse d ≡ none → (c ≡ none) × (d ≡ none)
 or-none none d e = (refl, e)
 or-none (some c) d e = let z : _≡_ {A = ℕ} 0 1 = cc in absurd (omega arith)
 
-pub none-or : {c d : Option Cause} → c ≡ none → d ≡ none → c or d ≡ none
+pub none-or : {c d : Option Cause} → c ≡ none → d ≡ none → c orElse d ≡ none
 none-or {c} {d} e f = rw e f
 
-pub on-none : (t : Bool) (c : Cause) → on t c ≡ none → t ≡ false
+pub on-none : (t : Bool) (c : Cause) → causeWhen t c ≡ none → t ≡ false
 on-none false c e = refl
 on-none true c e = let z : _≡_ {A = ℕ} 0 1 = cc in absurd (omega arith)
 
@@ -43,10 +43,10 @@ unfolding refuse
 inside-none n i h = ap (λ (t : Bool). mentioned (refuse t 6 0)) (lt-leb n i h)
 
 -- a count is within its limit where it is not refused
-pub within : (most n : ℕ) (c : Cause) → on (ltb most n) c ≡ none → n ≤ most
+pub within : (most n : ℕ) (c : Cause) → causeWhen (ltb most n) c ≡ none → n ≤ most
 within most n c e = ltb-false most n (on-none (ltb most n) c e)
 
-pub within-none : (most n : ℕ) (c : Cause) → n ≤ most → on (ltb most n) c ≡ none
+pub within-none : (most n : ℕ) (c : Cause) → n ≤ most → causeWhen (ltb most n) c ≡ none
 within-none most n c h = rw (le-ltb most n h)
 
 module _ {A : Type 0} where
@@ -72,15 +72,15 @@ abbrev pub isNone : Option Cause → Bool
 isNone none = true
 isNone (some c) = false
 
-pub isNone-or : (c d : Option Cause) → isNone (c or d) ≡ (isNone c && isNone d)
+pub isNone-or : (c d : Option Cause) → isNone (c orElse d) ≡ (isNone c && isNone d)
 isNone-or none d = refl
 isNone-or (some c) d = refl
 
-pub isNone-on : (t : Bool) (c : Cause) → isNone (on t c) ≡ not t
+pub isNone-on : (t : Bool) (c : Cause) → isNone (causeWhen t c) ≡ not t
 isNone-on true c = refl
 isNone-on false c = refl
 
-pub isNone-on-or : (t : Bool) (c : Cause) (d : Option Cause) → isNone (on t c or d) ≡ (not t && isNone d)
+pub isNone-on-or : (t : Bool) (c : Cause) (d : Option Cause) → isNone (causeWhen t c orElse d) ≡ (not t && isNone d)
 isNone-on-or true c d = refl
 isNone-on-or false c d = refl
 
@@ -112,20 +112,20 @@ pub later-zero : (o : Outcome) → later 0 o ≡ o
 later-zero (accepted leaving l) = refl
 later-zero (refused i c leaving l) = ap (λ (k : ℕ). refused k c leaving l) (zero-add i)
 
-pub later-then : (n : ℕ) (o : Outcome) (f : Lent → Outcome) → later n (o then f) ≡ (later n o then λ r. later n (f r))
+pub later-then : (n : ℕ) (o : Outcome) (f : Lent → Outcome) → later n (o followedBy f) ≡ (later n o followedBy λ r. later n (f r))
 later-then n (accepted leaving l) f = refl
 later-then n (refused i c leaving l) f = refl
 
-pub then-then : (o : Outcome) (f g : Lent → Outcome) → (o then f then g) ≡ (o then λ r. f r then g)
+pub then-then : (o : Outcome) (f g : Lent → Outcome) → (o followedBy f followedBy g) ≡ (o followedBy λ r. f r followedBy g)
 then-then (accepted leaving l) f g = refl
 then-then (refused i c leaving l) f g = refl
 
 -- what follows need agree only on what an accepted outcome left
-pub then-same : (P : Lent → Type 0) (o : Outcome) (f g : Lent → Outcome) → P (left o) → ((r : Lent) → P r → f r ≡ g r) → (o then f) ≡ (o then g)
+pub then-same : (P : Lent → Type 0) (o : Outcome) (f g : Lent → Outcome) → P (left o) → ((r : Lent) → P r → f r ≡ g r) → (o followedBy f) ≡ (o followedBy g)
 then-same P (accepted leaving l) f g h e = e l h
 then-same P (refused i c leaving l) f g h e = refl
 
-pub then-ap : (o : Outcome) (f g : Lent → Outcome) → ((r : Lent) → f r ≡ g r) → (o then f) ≡ (o then g)
+pub then-ap : (o : Outcome) (f g : Lent → Outcome) → ((r : Lent) → f r ≡ g r) → (o followedBy f) ≡ (o followedBy g)
 then-ap (accepted leaving l) f g e = e l
 then-ap (refused i c leaving l) f g e = refl
 
@@ -133,10 +133,10 @@ pub left-later : (n : ℕ) (o : Outcome) → left (later n o) ≡ left o
 left-later n (accepted leaving l) = refl
 left-later n (refused i c leaving l) = refl
 
-pub left-unless : (P : Lent → Type 0) (c : Option Cause) (l : Lent) (o : Outcome) → P l → P (left o) → P (left (unless c l o))
+pub left-unless : (P : Lent → Type 0) (c : Option Cause) (l : Lent) (o : Outcome) → P l → P (left o) → P (left (unlessCause c l o))
 left-unless P none l o p q = q
 left-unless P (some c) l o p q = p
 
-pub left-then : (P : Lent → Type 0) (o : Outcome) (f : Lent → Outcome) → P (left o) → ((r : Lent) → P r → P (left (f r))) → P (left (o then f))
+pub left-then : (P : Lent → Type 0) (o : Outcome) (f : Lent → Outcome) → P (left o) → ((r : Lent) → P r → P (left (f r))) → P (left (o followedBy f))
 left-then P (accepted leaving l) f p g = g l p
 left-then P (refused i c leaving l) f p g = p

@@ -30,7 +30,7 @@ use Rattle.ray_tracing.specs.Plan.{
   slotPresent,
   slotBlas,
   bySection,
-  judgeSection,
+  judgeLentSection,
   judgeTables,
   optionalMention,
   geometryIds,
@@ -42,21 +42,6 @@ use Rattle.ray_tracing.specs.Plan.{
 use Rattle.ray_tracing.proofs.Reading.{or-fine, on-fine}
 use Rattle.ray_tracing.proofs.Mentions.{mention-inside}
 use Rattle.ray_tracing.proofs.Verdicts.{or-passed, on-passed, on-true, none-atE, none-cond, each-passed, each-drawing}
-
--- the scratch alignment and the eight tables, as an entry point is lent them
-abbrev pub tablesOf : ℕ → List ℕ → List ℕ → List ℕ → List ℕ → List ℕ → List ℕ → List ℕ → List ℕ → Tables
-tablesOf alignment buffers blases declared tlases entries geometries packages slots =
-    record {
-      alignment = alignment;
-      buffers = buffers;
-      blases = blases;
-      declared = declared;
-      tlases = tlases;
-      entries = entries;
-      geometries = geometries;
-      packages = packages;
-      slots = slots;
-    }
 
 -- the geometries that the entries before entry i draw, and the slots that the packages before package p draw
 unfoldable pub drawnBefore : Tables → ℕ → ℕ
@@ -175,7 +160,7 @@ field-fits :
 unfolding judgeFields
 field-fits f fs c s p e =
     let x = or-fine (judgeField c s p f) _ e in
-    let y = or-fine (reading.on (ltb (length s) (p + f .width)) (reading.refused 2 p)) _ (x .0) in
+    let y = or-fine (reading.judgedWhen (ltb (length s) (p + f .width)) (reading.refused 2 p)) _ (x .0) in
     (not-false (fits f c (leAt (f .width) s p)) (on-fine _ 5 p (y .1)), x .1)
 
 records-each :
@@ -213,8 +198,8 @@ module _ (k : ℕ) (l : Layout) (w : ℕ) (t s : List ℕ) (f : judgeLent k l w 
   unfolding judgeLent
   lent-parts =
       let n = length s / total (l .fields) in
-      let x = or-fine (reading.on (ltb (l .most) n) (reading.refused 4 0)) _ f in
-      let y = or-fine (reading.on (not (addsUp k t n)) (reading.refused 5 0)) _ (x .1) in
+      let x = or-fine (reading.judgedWhen (ltb (l .most) n) (reading.refused 4 0)) _ f in
+      let y = or-fine (reading.judgedWhen (not (addsUp k t n)) (reading.refused 5 0)) _ (x .1) in
       let z = or-fine (byRecord (total (l .fields)) (judgeTable k (l .fields) w t s 0 n)) _ (y .1) in (
         ltb-false (l .most) n (on-fine _ 4 0 (x .0)),
         not-false (addsUp k t n) (on-fine _ 5 0 (y .0)),
@@ -222,14 +207,14 @@ module _ (k : ℕ) (l : Layout) (w : ℕ) (t s : List ℕ) (f : judgeLent k l w 
       )
 
 module _ (x : Tables) (t : judgeTables x ≡ passed) where
-  table-parts : (eqb (x .alignment) 0 ≡ false) × (firstOf (judgeSection x) 1 8 ≡ passed)
+  table-parts : (eqb (x .alignment) 0 ≡ false) × (firstOf (judgeLentSection x) 1 8 ≡ passed)
   unfolding judgeTables
   table-parts =
       let y = or-passed (on (eqb (x .alignment) 0) _) _ t in
       (on-passed (eqb (x .alignment) 0) 0 0 _ (y .0), y .1)
 
   lent-fine : (k : ℕ) → k < 8 → judgeLent (1 + k) (layout (1 + k)) (size (1 + k - 1)) (tableOf x (1 + k - 1)) (tableOf x (1 + k)) ≡ reading.fine
-  lent-fine k h = section-passed (1 + k) _ (each-passed (judgeSection x) 8 1 (table-parts .1) k h)
+  lent-fine k h = section-passed (1 + k) _ (each-passed (judgeLentSection x) 8 1 (table-parts .1) k h)
 
   tables-most : (k : ℕ) → 1 ≤ k → k ≤ 8 → recordsIn x k ≤ layout k .most
   tables-most k a b =

@@ -14,15 +14,15 @@ use Rattle.ray_tracing.specs.declared.Blas.{Blas}
 use Rattle.ray_tracing.specs.declared.Tlas.{Tlas}
 use Rattle.ray_tracing.specs.Layout.{Seen, Field, fits, Layout, layout, size, total}
 use Rattle.ray_tracing.specs.Records.{blasAt, tlasAt}
-use Rattle.ray_tracing.specs.Reading.{Judged, fine, refused, on, _or_, judgeField, judgeFields, judgeRecords, judgeLent, begin, byRecord}
+use Rattle.ray_tracing.specs.Reading.{Judged, fine, refused, judgedWhen, _andNext_, judgeField, judgeFields, judgeRecords, judgeLent, begin, byRecord}
 use Rattle.ray_tracing.specs.Submission.{blasIn, tlasIn, builtBlas, builtTlas}
 use Rattle.ray_tracing.proofs.Tables.{blasWith, tlasWith, built-length, built-before, built-past, built-same, tlas-length, tlas-before, tlas-past, tlas-same}
 
-pub or-fine : (a b : Judged) → a or b ≡ fine → (a ≡ fine) × (b ≡ fine)
+pub or-fine : (a b : Judged) → a andNext b ≡ fine → (a ≡ fine) × (b ≡ fine)
 or-fine fine b e = (refl, e)
 or-fine (refused n p) b e = let z : _≡_ {A = ℕ} 0 1 = cc in absurd (omega arith)
 
-pub fine-or : {a b : Judged} → a ≡ fine → b ≡ fine → a or b ≡ fine
+pub fine-or : {a b : Judged} → a ≡ fine → b ≡ fine → a andNext b ≡ fine
 fine-or {a} {b} e f = rw e f
 
 -- ---- a record
@@ -35,7 +35,7 @@ fields-cong [] c s t at e h = refl
 fields-cong (f ∷ fs) c s t at e h =
     let v : leAt (f .width) s at ≡ leAt (f .width) t at = le-cong (f .width) s t at at (λ k l. h k (omega arith)) in
     rw (e, v)
-    (ap (λ (j : Judged). (on (ltb (length t) (at + f .width)) (refused 2 at) or on (not (fits f c (leAt (f .width) t at))) (refused 5 at)) or j)
+    (ap (λ (j : Judged). (judgedWhen (ltb (length t) (at + f .width)) (refused 2 at) andNext judgedWhen (not (fits f c (leAt (f .width) t at))) (refused 5 at)) andNext j)
     (fields-cong fs (f .after c (leAt (f .width) t at)) s t (at + f .width) e (λ k l. rw add-assoc (h (f .width + k) (omega arith)))))
 
 -- ---- records
@@ -62,22 +62,22 @@ module _ (c : Seen) (fs : List Field) (s t : List ℕ) where
 
 -- a u8 of at most n at o, a number of any value, of which only the place is judged
 abbrev small : ℕ → ℕ → ℕ → ℕ → Judged
-small len at n v = on (ltb len (at + 1)) (refused 2 at) or on (not (leb v n || false)) (refused 5 at)
+small len at n v = judgedWhen (ltb len (at + 1)) (refused 2 at) andNext judgedWhen (not (leb v n || false)) (refused 5 at)
 
 abbrev number : ℕ → ℕ → ℕ → Judged
-number len at w = on (ltb len (at + w)) (refused 2 at) or fine
+number len at w = judgedWhen (ltb len (at + w)) (refused 2 at) andNext fine
 
 -- a Blas's fields by their values
 blas-fields : ℕ → ℕ → Blas → Judged
 blas-fields len at r =
     small len at 1 (r .kind)
-    or small len (at + 1) 7 (r .flags)
-    or small len (at + 2) 3 (r .«compacted_state»)
-    or small len (at + 3) 1 (r .destroyed)
-    or number len (at + 4) 8
-    or number len (at + 12) 8
-    or number len (at + 20) 8
-    or fine
+    andNext small len (at + 1) 7 (r .flags)
+    andNext small len (at + 2) 3 (r .«compacted_state»)
+    andNext small len (at + 3) 1 (r .destroyed)
+    andNext number len (at + 4) 8
+    andNext number len (at + 12) 8
+    andNext number len (at + 20) 8
+    andNext fine
 
 blas-judged : (c : Seen) (s : List ℕ) (at : ℕ) → judgeFields c s at (layout 2 .fields) ≡ blas-fields (length s) at (blasAt s at)
 unfolding judgeFields blas-fields
@@ -89,18 +89,18 @@ blas-kept len at n r e =
     let a = or-fine (small len at 1 (r .kind)) _ e in
     let b = or-fine (small len (at + 1) 7 (r .flags)) _ (a .1) in
     let c = or-fine (small len (at + 2) 3 (r .«compacted_state»)) _ (b .1) in
-    let d = or-fine (on (ltb len (at + 2 + 1)) (refused 2 (at + 2))) _ (c .0) in
+    let d = or-fine (judgedWhen (ltb len (at + 2 + 1)) (refused 2 (at + 2))) _ (c .0) in
     fine-or (a .0) (fine-or (b .0) (fine-or (fine-or (d .0) refl) (c .1)))
 
 -- a Tlas's fields by their values
 tlas-fields : ℕ → ℕ → Tlas → Judged
 tlas-fields len at r =
-    (on (ltb len (at + 1)) (refused 2 at) or on (not ((eqb (r .flags) 0 || eqb (r .flags) 2) || false)) (refused 5 at))
-    or small len (at + 1) 1 (r .destroyed)
-    or number len (at + 2) 8
-    or number len (at + 10) 4
-    or number len (at + 14) 8
-    or fine
+    (judgedWhen (ltb len (at + 1)) (refused 2 at) andNext judgedWhen (not ((eqb (r .flags) 0 || eqb (r .flags) 2) || false)) (refused 5 at))
+    andNext small len (at + 1) 1 (r .destroyed)
+    andNext number len (at + 2) 8
+    andNext number len (at + 10) 4
+    andNext number len (at + 14) 8
+    andNext fine
 
 tlas-judged : (c : Seen) (s : List ℕ) (at : ℕ) → judgeFields c s at (layout 4 .fields) ≡ tlas-fields (length s) at (tlasAt s at)
 unfolding judgeFields tlas-fields
@@ -114,9 +114,9 @@ tlas-kept len at n r e = e
 
 abbrev plain : ℕ → List Field → Seen → List ℕ → Judged
 plain most fs c s =
-    on (ltb most (length s / total fs)) (refused 4 0)
-    or byRecord (total fs) (judgeRecords c fs s 0 (length s / total fs))
-    or on (not (eqb (length s % total fs) 0)) (refused 5 (length s / total fs))
+    judgedWhen (ltb most (length s / total fs)) (refused 4 0)
+    andNext byRecord (total fs) (judgeRecords c fs s 0 (length s / total fs))
+    andNext judgedWhen (not (eqb (length s % total fs) 0)) (refused 5 (length s / total fs))
 
 by-record-fine : (w : ℕ) (j : Judged) → byRecord w j ≡ fine → j ≡ fine
 by-record-fine w fine e = refl
@@ -127,7 +127,7 @@ plain-kept : (most : ℕ) (fs : List Field) (c : Seen) (s t : List ℕ) → leng
     → plain most fs c s ≡ fine → plain most fs c t ≡ fine
 plain-kept most fs c s t q k e =
     let n = length s / total fs in
-    let a = or-fine (on (ltb most n) (refused 4 0)) _ e in
+    let a = or-fine (judgedWhen (ltb most n) (refused 4 0)) _ e in
     let b = or-fine (byRecord (total fs) (judgeRecords c fs s 0 n)) _ (a .1) in
     let r : judgeRecords c fs t 0 n ≡ fine = records-kept c fs s t 0 n (λ j l. rw zero-add (k j)) (by-record-fine (total fs) _ (b .0)) in
     rw q (fine-or (a .0) (fine-or (ap (byRecord (total fs)) r) (b .1)))

@@ -14,13 +14,13 @@ use Rattle.ray_tracing.specs.Reading.{
   Judged,
   fine,
   refused,
-  on,
-  _or_,
+  judgedWhen,
+  _andNext_,
   judgeFields,
   judgeRecords,
   begin,
   ofBoxes,
-  geometryCount,
+  drawnCount,
   judgeDrawn,
   judgeTable,
   sumOfCounts,
@@ -39,12 +39,12 @@ pub only-above : {n p : ℕ} → Only (refused n p) → 4 ≤ n
 only-above four = omega arith
 only-above five = omega arith
 
-only-or : {x y : Judged} → Only x → Only y → Only (x or y)
+only-or : {x y : Judged} → Only x → Only y → Only (x andNext y)
 only-or none g = g
 only-or four g = four
 only-or five g = five
 
-only-on : {x : Judged} (t : Bool) → Only x → Only (on t x)
+only-on : {x : Judged} (t : Bool) → Only x → Only (judgedWhen t x)
 only-on true f = f
 only-on false f = none
 
@@ -79,8 +79,8 @@ drawn-only fs t s (suc n) q p h =
     let e : q + 3 + 5 ≡ q + 5 + 3 = omega arith in
     let w = rw e at h in
     only-or
-    (records-only (begin (size 5) t (ofBoxes t q)) fs s (geometryCount t q) p (omega arith))
-    (drawn-only fs t s n (q + 5) (p + geometryCount t q * total fs) (omega arith))
+    (records-only (begin (size 5) t (ofBoxes t q)) fs s (drawnCount t q) p (omega arith))
+    (drawn-only fs t s n (q + 5) (p + drawnCount t q * total fs) (omega arith))
 
 table-only :
     (k : ℕ) (fs : List Field) (w : ℕ) (t s : List ℕ) (n : ℕ)
@@ -109,9 +109,9 @@ lent-only k l w t s =
         (b : Bool)
         → addsUp k t (length s / total (l .fields)) ≡ b
         → Only
-        (on (not b) (refused 5 0)
-        or byRecord (total (l .fields)) (judgeTable k (l .fields) w t s 0 (length s / total (l .fields)))
-        or on (not (eqb (length s % total (l .fields)) 0)) (refused 5 (length s / total (l .fields))))
+        (judgedWhen (not b) (refused 5 0)
+        andNext byRecord (total (l .fields)) (judgeTable k (l .fields) w t s 0 (length s / total (l .fields)))
+        andNext judgedWhen (not (eqb (length s % total (l .fields)) 0)) (refused 5 (length s / total (l .fields))))
     go false e = five
     go true e =
         only-or

@@ -14,7 +14,8 @@ use borrow.Author.Tests.{lt-ltb, le-ltb, leb-true, leb-false}
 use Rattle.wire.specs.Wire.{leAt}
 use Rattle.ray_tracing.specs.declared.Sheet.{Sheet}
 use Rattle.ray_tracing.specs.Layout.{layout, size}
-use Rattle.ray_tracing.specs.Reading.{Judged, fine, refused, on, _or_, judgeRecords, begin, past, from, judgeSection, judgeSections, judgeSheet, sheetOf, accepted, answer, readSheet, sectionsUpTo, longest}
+use Rattle.ray_tracing.specs.Reading.{Judged, fine, refused, judgedWhen, _andNext_, judgeRecords, begin, past, from, judgeSection, judgeSections, judgeSheet, sheetOf, accepted, answer, readSheet}
+use Rattle.ray_tracing.specs.Sizes.{longest, sectionsUpTo}
 use Rattle.ray_tracing.proofs.Reading.{refused-not-fine, section-most, past-more, from-more}
 use Rattle.ray_tracing.proofs.Sheets.{accepted-judged}
 use Rattle.ray_tracing.proofs.Windows.{Window, moved-none, window-part, le-window, records-window, section-window}
@@ -28,11 +29,11 @@ longest-is = refl
 data Alike : Judged → Judged → Type 0 where
   alike : {n p : ℕ} → Alike (refused n p) (refused n p)
 
-alike-or : (x : Judged) {y z : Judged} → (x ≡ fine → Alike y z) → Alike (x or y) (x or z)
+alike-or : (x : Judged) {y z : Judged} → (x ≡ fine → Alike y z) → Alike (x andNext y) (x andNext z)
 alike-or fine f = f refl
 alike-or (refused n p) f = alike
 
-or-assoc : (x y z : Judged) → ((x or y) or z) ≡ (x or y or z)
+or-assoc : (x y z : Judged) → ((x andNext y) andNext z) ≡ (x andNext y andNext z)
 or-assoc fine y z = refl
 or-assoc (refused n p) y z = refl
 
@@ -96,8 +97,8 @@ module _ {t s : List ℕ} (w : Window 0 t s) (h : longest < length t) where
       → k + n ≡ 9
       → Reached t s k
       → Alike
-      (judgeSections s k n or on (ltb (past s 9) (length s)) (refused 3 (past s 9)))
-      (judgeSections t k n or on (ltb (past t 9) (length t)) (refused 3 (past t 9)))
+      (judgeSections s k n andNext judgedWhen (ltb (past s 9) (length s)) (refused 3 (past s 9)))
+      (judgeSections t k n andNext judgedWhen (ltb (past t 9) (length t)) (refused 3 (past t 9)))
   unfolding judgeSections
   sections-alike zero k e r =
       let z : k ≡ 9 = omega arith in
@@ -120,7 +121,7 @@ module _ {t s : List ℕ} (w : Window 0 t s) (h : longest < length t) where
         records-window w (layout 0 .fields) (begin 0 [] false) 1 1 (omega arith),
         moved-none,
       )
-      (alike-or (on (not (eqb (leAt 1 t 0) 1)) (refused 1 0))
+      (alike-or (judgedWhen (not (eqb (leAt 1 t 0) 1)) (refused 1 0))
       (λ e. alike-or (judgeRecords (begin 0 [] false) (layout 0 .fields) t 1 1) (λ f. sections-alike 9 0 refl reached)))
 
   pub longer : readSheet s ≡ readSheet t

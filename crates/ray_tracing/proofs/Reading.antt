@@ -15,14 +15,14 @@ use Rattle.ray_tracing.specs.Reading.{
   Judged,
   fine,
   refused,
-  on,
-  _or_,
+  judgedWhen,
+  _andNext_,
   judgeField,
   judgeFields,
   judgeRecords,
   begin,
   ofBoxes,
-  geometryCount,
+  drawnCount,
   judgeDrawn,
   judgeTable,
   sumOfCounts,
@@ -41,11 +41,11 @@ refused-not-fine n p e =
     let z : _≡_ {A = ℕ} 0 1 = cc in
     omega arith
 
-pub or-fine : (a b : Judged) → (a or b) ≡ fine → (a ≡ fine) × (b ≡ fine)
+pub or-fine : (a b : Judged) → (a andNext b) ≡ fine → (a ≡ fine) × (b ≡ fine)
 or-fine fine b e = (refl, e)
 or-fine (refused n p) b e = absurd (refused-not-fine n p e)
 
-pub on-fine : (t : Bool) (n p : ℕ) → on t (refused n p) ≡ fine → t ≡ false
+pub on-fine : (t : Bool) (n p : ℕ) → judgedWhen t (refused n p) ≡ fine → t ≡ false
 on-fine false n p e = refl
 on-fine true n p e = absurd (refused-not-fine n p e)
 
@@ -58,7 +58,7 @@ unfolding judgeFields
 fields-whole [] c s p h e = omega arith
 fields-whole (f ∷ fs) c s p h e =
     let x = or-fine (judgeField c s p f) (judgeFields (f .after c (leAt (f .width) s p)) s (p + f .width) fs) e in
-    let y = or-fine (on (ltb (length s) (p + f .width)) (refused 2 p)) _ (x .0) in
+    let y = or-fine (judgedWhen (ltb (length s) (p + f .width)) (refused 2 p)) _ (x .0) in
     let z = ltb-false (length s) (p + f .width) (on-fine _ 2 p (y .0)) in
     omega (arith, fields-whole fs (f .after c (leAt (f .width) s p)) s (p + f .width) z (x .1))
 
@@ -105,8 +105,8 @@ module _ (fs : List Field) (t s : List ℕ) where
     pub drawn-fine :
         (n p : ℕ)
         → 0 < n
-        → judgeRecords (begin (size 5) t (ofBoxes t q)) fs s p (geometryCount t q) ≡ fine
-        → judgeDrawn fs t q s p n ≡ judgeDrawn fs t (q + size 5) s (p + geometryCount t q * total fs) (n - 1)
+        → judgeRecords (begin (size 5) t (ofBoxes t q)) fs s p (drawnCount t q) ≡ fine
+        → judgeDrawn fs t q s p n ≡ judgeDrawn fs t (q + size 5) s (p + drawnCount t q * total fs) (n - 1)
     unfolding judgeDrawn
     drawn-fine (suc n) p h f = rw (f, sub-one (suc n))
     drawn-fine zero p h f = absurd (omega arith)
@@ -114,7 +114,7 @@ module _ (fs : List Field) (t s : List ℕ) where
     pub drawn-refused :
         (j : Judged) (n p number place : ℕ)
         → 0 < n
-        → j ≡ judgeRecords (begin (size 5) t (ofBoxes t q)) fs s p (geometryCount t q)
+        → j ≡ judgeRecords (begin (size 5) t (ofBoxes t q)) fs s p (drawnCount t q)
         → j ≡ refused number place
         → j ≡ judgeDrawn fs t q s p n
     unfolding judgeDrawn
@@ -126,10 +126,10 @@ module _ (fs : List Field) (t s : List ℕ) where
   unfolding judgeDrawn sumOfCounts
   drawn-whole zero q p h f = simp zero-mul (omega arith)
   drawn-whole (suc n) q p h f =
-      let x = or-fine (judgeRecords (begin (size 5) t (ofBoxes t q)) fs s p (geometryCount t q)) _ f in
-      let w = records-whole _ fs s (geometryCount t q) p h (x .0) in
+      let x = or-fine (judgeRecords (begin (size 5) t (ofBoxes t q)) fs s p (drawnCount t q)) _ f in
+      let w = records-whole _ fs s (drawnCount t q) p h (x .0) in
       let e : q + 5 + 3 ≡ q + 3 + 5 = omega arith in
-      omega (arith, rw e at (drawn-whole n (q + 5) (p + geometryCount t q * total fs) w (x .1)))
+      omega (arith, rw e at (drawn-whole n (q + 5) (p + drawnCount t q * total fs) w (x .1)))
 
 -- ---- sections
 
@@ -158,15 +158,15 @@ module _ (s : List ℕ) (k a p : ℕ) (f : judgeSection s k a p ≡ fine) where
   before = take (p - a) (drop a s)
 
   parts :
-      (on (ltb (length s) (p + 2)) (refused 2 p) ≡ fine)
-      × ((on (ltb (layout (k + 1) .most) (leAt 2 s p)) (refused 4 p) ≡ fine)
-      × ((on (not (addsUp (k + 1) before (leAt 2 s p))) (refused 5 p) ≡ fine)
+      (judgedWhen (ltb (length s) (p + 2)) (refused 2 p) ≡ fine)
+      × ((judgedWhen (ltb (layout (k + 1) .most) (leAt 2 s p)) (refused 4 p) ≡ fine)
+      × ((judgedWhen (not (addsUp (k + 1) before (leAt 2 s p))) (refused 5 p) ≡ fine)
       × (judgeTable (k + 1) (layout (k + 1) .fields) (size k) before s (p + 2) (leAt 2 s p) ≡ fine)))
   unfolding judgeSection
   parts =
-      let x = or-fine (on (ltb (length s) (p + 2)) (refused 2 p)) _ f in
-      let y = or-fine (on (ltb (layout (k + 1) .most) (leAt 2 s p)) (refused 4 p)) _ (x .1) in
-      let z = or-fine (on (not (addsUp (k + 1) before (leAt 2 s p))) (refused 5 p)) _ (y .1) in
+      let x = or-fine (judgedWhen (ltb (length s) (p + 2)) (refused 2 p)) _ f in
+      let y = or-fine (judgedWhen (ltb (layout (k + 1) .most) (leAt 2 s p)) (refused 4 p)) _ (x .1) in
+      let z = or-fine (judgedWhen (not (addsUp (k + 1) before (leAt 2 s p))) (refused 5 p)) _ (y .1) in
       (x .0, (y .0, (z .0, z .1)))
 
   pub section-count : p + 2 ≤ length s
@@ -196,7 +196,7 @@ from-more s k = rw (add-one k)
 
 module _ (s : List ℕ) (k : ℕ) (h : k < 9) where
   pub sections-more :
-      judgeSections s k (9 - k) ≡ (judgeSection s k (from s k) (past s k) or judgeSections s (k + 1) (9 - (k + 1)))
+      judgeSections s k (9 - k) ≡ (judgeSection s k (from s k) (past s k) andNext judgeSections s (k + 1) (9 - (k + 1)))
   unfolding judgeSections
   sections-more =
       let e : 9 - k ≡ suc (9 - (k + 1)) = omega arith in

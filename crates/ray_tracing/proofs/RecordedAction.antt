@@ -114,7 +114,7 @@ action-decoded x lists post e =
 
 -- ---- what a submission judges of it
 
-none-after : (c : Option Cause) → submission._or_ c none ≡ c
+none-after : (c : Option Cause) → submission._orElse_ c none ≡ c
 none-after none = refl
 none-after (some c) = refl
 
@@ -191,7 +191,7 @@ module _ (x : Tables) (i : Inside x) (l : Lent) (b : l .blases ≡ x .blases) (t
   module _ (kept : (k : ℕ) → k < recordsIn x 5 → blasOfEntry x k .«compacted_state» ≡ 3 → ⊥) where
     not-compacted : (k : ℕ) → k < recordsIn x 5 → submission.compacted l (entryOf x k .blas .0) ≡ none
     unfolding submission.blasIn
-    not-compacted k h = rw b (ap (λ (q : Bool). submission.on q (cause 41 (entryOf x k .blas .0) 0 0)) (ne-eqb (blasOfEntry x k .«compacted_state») 3 (kept k h)))
+    not-compacted k h = rw b (ap (λ (q : Bool). submission.causeWhen q (cause 41 (entryOf x k .blas .0) 0 0)) (ne-eqb (blasOfEntry x k .«compacted_state») 3 (kept k h)))
 
     abbrev blases-of : List ℕ
     blases-of = entryBlases x 0 (recordsIn x 5)
@@ -200,14 +200,14 @@ module _ (x : Tables) (i : Inside x) (l : Lent) (b : l .blases ≡ x .blases) (t
     packages-of = recordedPackages x 0 0 (recordsIn x 7)
 
     -- no 4, 6 or 41, and 40 if the counter is 0
-    pub only-counter : submission.before l (submission.build blases-of packages-of) ≡ submission.on (eqb (l .counter) 0) (bare 40)
+    pub only-counter : submission.before l (submission.build blases-of packages-of) ≡ submission.causeWhen (eqb (l .counter) 0) (bare 40)
     unfolding submission.before
     only-counter =
         let s = sym (slots-none x) in
         let few-blases = within-none 64 (length blases-of) (bare 4) (omega (arith, blases-length x 0 (recordsIn x 5), i .most 5 (omega arith) (omega arith))) in
         let few-tlases = within-none 32 (length packages-of) (bare 4) (omega (arith, packages-count (recordsIn x 7) 0 0, i .most 7 (omega arith) (omega arith))) in
-        let few-each = packages-none (λ p. submission.on (ltb 512 (length (p .dependencies))) (bare 4)) (λ p h. within-none 512 _ (bare 4) (few p h)) (recordsIn x 7) 0 0 s (omega arith) in
+        let few-each = packages-none (λ p. submission.causeWhen (ltb 512 (length (p .dependencies))) (bare 4)) (λ p h. within-none 512 _ (bare 4) (few p h)) (recordsIn x 7) 0 0 s (omega arith) in
         let blases = entries-none (submission.mentionBlas l) (λ k h. blas-mentioned _ (i .entry-blas k h)) (recordsIn x 5) 0 (omega arith) in
         let packages = packages-none (submission.mentionPackage l) package-mentioned (recordsIn x 7) 0 0 s (omega arith) in
         let compacted = entries-none (submission.compacted l) not-compacted (recordsIn x 5) 0 (omega arith) in
-        rw (few-blases, few-tlases, few-each, blases, packages, compacted) (none-after (submission.on (eqb (l .counter) 0) (bare 40)))
+        rw (few-blases, few-tlases, few-each, blases, packages, compacted) (none-after (submission.causeWhen (eqb (l .counter) 0) (bare 40)))

@@ -14,8 +14,7 @@ use borrow.Author.Tests.{le-ltb, ltb-true, ltb-false, eq-eqb, eqb-true, not-fals
 use Rattle.wire.specs.Wire.{leAt}
 use Rattle.ray_tracing.specs.declared.Sheet.{Sheet}
 use Rattle.ray_tracing.specs.Layout.{Seen, Field, Layout, always, positive, u32, layout, size, total}
-use Rattle.ray_tracing.specs.Reading.{Judged, fine, refused, on, judgeField, judgeFields, judgeRecords, begin, judgeTable, addsUp, past, from, judgeSection, judgeSections, judgeSheet, sectionOf, sheetOf, accepted, answer, readSheet, byRecord, judgeLent}
-use Rattle.ray_tracing.specs.Writing.{table}
+use Rattle.ray_tracing.specs.Reading.{Judged, fine, refused, judgedWhen, judgeField, judgeFields, judgeRecords, begin, judgeTable, addsUp, past, from, judgeSection, judgeSections, judgeSheet, sectionOf, sheetOf, accepted, answer, readSheet, byRecord, judgeLent, table}
 use Rattle.ray_tracing.proofs.Each.{each, size-positive}
 use Rattle.ray_tracing.proofs.Reading.{or-fine, on-fine, refused-not-fine, section-most, section-adds-up, section-table, section-whole, past-more, from-more, sections-more}
 use Rattle.ray_tracing.proofs.Windows.{moved, window-part, table-window}
@@ -40,8 +39,8 @@ module _ (k : ℕ) (l : Layout) (w : ℕ) (t s : List ℕ) where
   pub lent-tells : judgeLent k l w t s ≡ fine → Lent k l w t s
   unfolding judgeLent
   lent-tells e =
-      let x = or-fine (on (ltb (l .most) n) (refused 4 0)) _ e in
-      let y = or-fine (on (not (addsUp k t n)) (refused 5 0)) _ (x .1) in
+      let x = or-fine (judgedWhen (ltb (l .most) n) (refused 4 0)) _ e in
+      let y = or-fine (judgedWhen (not (addsUp k t n)) (refused 5 0)) _ (x .1) in
       let z = or-fine (byRecord (total (l .fields)) (judgeTable k (l .fields) w t s 0 n)) _ (y .1) in
       record {
         few = ltb-false (l .most) n (on-fine _ 4 0 (x .0));
@@ -194,7 +193,7 @@ pub field-allowed :
     → f .used c ≡ true
     → f .allowed c (leAt (f .width) s p) ≡ true
 field-allowed c s p f e u =
-    let x = or-fine (on (ltb (length s) (p + f .width)) (refused 2 p)) _ e in
+    let x = or-fine (judgedWhen (ltb (length s) (p + f .width)) (refused 2 p)) _ e in
     go (f .allowed c (leAt (f .width) s p)) (f .used c) (not-false _ (on-fine _ 5 p (x .1))) u
   where
     go : (a u : Bool) → (a || not u) ≡ true → u ≡ true → a ≡ true
@@ -223,14 +222,14 @@ module _ (s : List ℕ) (x : Sheet) (e : readSheet s ≡ accepted x) where
   accepted-judged = judged .0
 
   parts :
-      (on (ltb (length s) 1) (refused 2 0) ≡ fine)
-      × ((on (not (eqb (leAt 1 s 0) 1)) (refused 1 0) ≡ fine)
+      (judgedWhen (ltb (length s) 1) (refused 2 0) ≡ fine)
+      × ((judgedWhen (not (eqb (leAt 1 s 0) 1)) (refused 1 0) ≡ fine)
       × ((judgeRecords (begin 0 [] false) (layout 0 .fields) s 1 1 ≡ fine)
-      × ((judgeSections s 0 9 ≡ fine) × (on (ltb (past s 9) (length s)) (refused 3 (past s 9)) ≡ fine))))
+      × ((judgeSections s 0 9 ≡ fine) × (judgedWhen (ltb (past s 9) (length s)) (refused 3 (past s 9)) ≡ fine))))
   unfolding judgeSheet
   parts =
-      let a = or-fine (on (ltb (length s) 1) (refused 2 0)) _ accepted-judged in
-      let b = or-fine (on (not (eqb (leAt 1 s 0) 1)) (refused 1 0)) _ (a .1) in
+      let a = or-fine (judgedWhen (ltb (length s) 1) (refused 2 0)) _ accepted-judged in
+      let b = or-fine (judgedWhen (not (eqb (leAt 1 s 0) 1)) (refused 1 0)) _ (a .1) in
       let c = or-fine (judgeRecords (begin 0 [] false) (layout 0 .fields) s 1 1) _ (b .1) in
       (a .0, (b .0, (c .0, or-fine (judgeSections s 0 9) _ (c .1))))
 

@@ -15,9 +15,7 @@ use borrow.Author.Tests.{eqb-false}
 use Rattle.ray_tracing.specs.Layout.{layout, size}
 use Rattle.ray_tracing.specs.Reading as reading
 use Rattle.ray_tracing.specs.Causes.{Cause, cause, bare}
-use Rattle.ray_tracing.specs.Submission.{Lent, Package, Action, build, useTlas, malformed, Outcome, accepted, refused, _leaving_, left, _then_, later, unless, on, _or_, first}
-use Rattle.ray_tracing.specs.Submission.{blasCount, tlasCount, blasIn, tlasIn, listIn, blas, tlas, dependenciesOf, mentionBlas, mentionTlas, mentionPackage, tooMany, compacted, tableCause}
-use Rattle.ray_tracing.specs.Submission.{judgeBlases, judgeTlases, judgeRoom, judgeList, judgeLists, judge, before, builtBlas, builtBlases, buildBlases, builtTlas, buildTlas, unnumbered, buildTlases, unusable, act, step, run, submission}
+use Rattle.ray_tracing.specs.Submission.{Lent, Package, Action, build, useTlas, malformed, Outcome, accepted, refused, _leaving_, left, _followedBy_, later, unlessCause, causeWhen, _orElse_, first, blasCount, tlasCount, blasIn, tlasIn, listIn, blas, tlas, dependenciesOf, mentionBlas, mentionTlas, mentionPackage, tooMany, compacted, tableCause, judgeBlases, judgeTlases, judgeRoom, judgeList, judgeLists, judge, before, builtBlas, builtBlases, buildBlases, builtTlas, buildTlas, unnumbered, buildTlases, unusable, act, step, run, submission}
 use Rattle.ray_tracing.proofs.Tables.{built-length, tlas-length, list-same, list-other}
 use Rattle.ray_tracing.proofs.Firsts.{or-none, none-or, on-none, outside, inside, within, within-none, left-later, left-unless, left-then}
 use Rattle.ray_tracing.proofs.Judging.{blases-kept, tlases-kept}
@@ -65,7 +63,7 @@ sound l f e =
     let a = or-none (judgeBlases l) _ e in
     let b = or-none (judgeTlases l) _ (a .1) in
     let c = or-none (judgeRoom l) _ (b .1) in
-    let d = or-none (on (ltb (length (l .dependencyCounts)) (tlasCount l)) (bare 39)) _ (c .0) in
+    let d = or-none (causeWhen (ltb (length (l .dependencyCounts)) (tlasCount l)) (bare 39)) _ (c .0) in
     let each : (t : ℕ) → t < tlasCount l → judgeList l t ≡ none = λ t h. rw zero-add at (lists-fine l 0 (tlasCount l) (c .1) t h) in
     record {
       fits = f;
@@ -73,8 +71,8 @@ sound l f e =
       tlases = table-none _ (b .0);
       counts = within _ _ _ (d .0);
       cells = within _ _ _ (d .1);
-      short = λ t h. within 512 (getD (l .dependencyCounts) t 0) (bare 4) (or-none (on (ltb 512 (getD (l .dependencyCounts) t 0)) (bare 4)) _ (each t h) .0);
-      lists = λ t h. or-none (on (ltb 512 (getD (l .dependencyCounts) t 0)) (bare 4)) _ (each t h) .1;
+      short = λ t h. within 512 (getD (l .dependencyCounts) t 0) (bare 4) (or-none (causeWhen (ltb 512 (getD (l .dependencyCounts) t 0)) (bare 4)) _ (each t h) .0);
+      lists = λ t h. or-none (causeWhen (ltb 512 (getD (l .dependencyCounts) t 0)) (bare 4)) _ (each t h) .1;
     }
 
 pub judged : (l : Lent) → Sound l → judge l ≡ none
@@ -160,10 +158,10 @@ mention-same : (l r : Lent) (ps : List Package) → length (r .blases) ≡ lengt
     → first (mentionPackage l) ps ≡ none → first (mentionPackage r) ps ≡ none
 mention-same l r ps e f h =
     subst
-    (λ (b : ℕ). first (λ p. outside (length (r .tlases) / size 4) (p .tlas) or first (λ x. outside (b / size 2) x) (p .dependencies)) ps ≡ none)
+    (λ (b : ℕ). first (λ p. outside (length (r .tlases) / size 4) (p .tlas) orElse first (λ x. outside (b / size 2) x) (p .dependencies)) ps ≡ none)
     (sym e)
     (subst
-    (λ (t : ℕ). first (λ p. outside (t / size 4) (p .tlas) or first (λ x. outside (length (l .blases) / size 2) x) (p .dependencies)) ps ≡ none)
+    (λ (t : ℕ). first (λ p. outside (t / size 4) (p .tlas) orElse first (λ x. outside (length (l .blases) / size 2) x) (p .dependencies)) ps ≡ none)
     (sym f) h)
 
 pub mention-built : (bs : List ℕ) (l : Lent) (ps : List Package) → first (mentionPackage l) ps ≡ none → first (mentionPackage (buildBlases bs l)) ps ≡ none
@@ -172,12 +170,12 @@ mention-built bs l ps h = mention-same l (buildBlases bs l) ps (blases-length (l
 pub mention-kept : (n : ℕ) (p : Package) (l : Lent) (ps : List Package) → first (mentionPackage l) ps ≡ none → first (mentionPackage (buildTlas n p l)) ps ≡ none
 mention-kept n p l ps h = mention-same l (buildTlas n p l) ps refl (tlas-length n (p .tlas) (l .tlases)) h
 
-sound-tlases : (n : ℕ) (ps : List Package) (l : Lent) → n < 2 ^ 64 → first (λ p. on (ltb 512 (length (p .dependencies))) (bare 4)) ps ≡ none
+sound-tlases : (n : ℕ) (ps : List Package) (l : Lent) → n < 2 ^ 64 → first (λ p. causeWhen (ltb 512 (length (p .dependencies))) (bare 4)) ps ≡ none
     → first (mentionPackage l) ps ≡ none → Sound l → Sound (left (buildTlases n ps l))
 unfolding buildTlases
 sound-tlases n [] l f s m h = h
 sound-tlases n (p ∷ ps) l f s m h =
-    let a = or-none (on (ltb 512 (length (p .dependencies))) (bare 4)) _ s in
+    let a = or-none (causeWhen (ltb 512 (length (p .dependencies))) (bare 4)) _ s in
     let b = or-none (mentionPackage l p) _ m in
     left-unless Sound (first (unnumbered l (p .tlas)) (p .dependencies)) l (buildTlases n ps (buildTlas n p l)) h
     (sound-tlases n ps (buildTlas n p l) f (a .1) (mention-kept n p l ps (b .1))
@@ -187,7 +185,7 @@ sound-tlases n (p ∷ ps) l f s m h =
 
 -- a Build that is not refused beforehand
 pub record Fit (l : Lent) (bs : List ℕ) (ps : List Package) : Type 0 where
-  pub short : first (λ p. on (ltb 512 (length (p .dependencies))) (bare 4)) ps ≡ none
+  pub short : first (λ p. causeWhen (ltb 512 (length (p .dependencies))) (bare 4)) ps ≡ none
   pub blases : first (mentionBlas l) bs ≡ none
   pub tlases : first (mentionPackage l) ps ≡ none
   pub counts : eqb (l .counter) 0 ≡ false
@@ -199,16 +197,16 @@ fit l bs ps e =
     let a = or-none (tooMany bs ps) _ e in
     let b = or-none (first (mentionBlas l) bs) _ (a .1) in
     let c = or-none (first (mentionPackage l) ps) _ (b .1) in
-    let d = or-none (on (eqb (l .counter) 0) (bare 40)) _ (c .1) in
-    let x = or-none (on (ltb 64 (length bs)) (bare 4)) _ (a .0) in
-    let y = or-none (on (ltb 32 (length ps)) (bare 4)) _ (x .1) in
+    let d = or-none (causeWhen (eqb (l .counter) 0) (bare 40)) _ (c .1) in
+    let x = or-none (causeWhen (ltb 64 (length bs)) (bare 4)) _ (a .0) in
+    let y = or-none (causeWhen (ltb 32 (length ps)) (bare 4)) _ (x .1) in
     record { short = y .1; blases = b .0; tlases = c .0; counts = on-none (eqb (l .counter) 0) (bare 40) (d .0); idle = d .1 }
 
 sound-step : (l : Lent) (a : Action) → Sound l → Sound (left (step l a))
 unfolding step act
 sound-step l a h = go a (before l a) refl
   where
-    go : (a : Action) (c : Option Cause) → before l a ≡ c → Sound (left (unless c l (act l a)))
+    go : (a : Action) (c : Option Cause) → before l a ≡ c → Sound (left (unlessCause c l (act l a)))
     go (build bs ps) none e =
         let f = fit l bs ps e in
         sound-tlases (l .counter) ps (buildBlases bs l) (h .fits) (f .short) (mention-built bs l ps (f .tlases)) (sound-blases bs l (f .blases) h)

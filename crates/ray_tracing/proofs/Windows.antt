@@ -13,7 +13,7 @@ use borrow.Author.Tests.{le-ltb, ltb-false, eqb-true}
 use Rattle.wire.specs.Wire.{leAt}
 use Rattle.wire.proofs.Laws.{le-cong}
 use Rattle.ray_tracing.specs.Layout.{Seen, Field, layout, size, total}
-use Rattle.ray_tracing.specs.Reading.{Judged, fine, refused, on, _or_, judgeFields, judgeRecords, begin, ofBoxes, geometryCount, judgeDrawn, judgeTable, sumOfCounts, addsUp, judgeSection}
+use Rattle.ray_tracing.specs.Reading.{Judged, fine, refused, judgedWhen, _andNext_, judgeFields, judgeRecords, begin, ofBoxes, drawnCount, judgeDrawn, judgeTable, sumOfCounts, addsUp, judgeSection}
 
 -- t is a part of s, from a on
 pub record Window (a : ℕ) (t s : List ℕ) : Type 0 where
@@ -25,11 +25,11 @@ abbrev pub moved : ℕ → Judged → Judged
 moved a fine = fine
 moved a (refused n p) = refused n (a + p)
 
-moved-or : (a : ℕ) (x y : Judged) → moved a (x or y) ≡ (moved a x or moved a y)
+moved-or : (a : ℕ) (x y : Judged) → moved a (x andNext y) ≡ (moved a x andNext moved a y)
 moved-or a fine y = refl
 moved-or a (refused n p) y = refl
 
-moved-on : (a : ℕ) (t : Bool) (x : Judged) → moved a (on t x) ≡ on t (moved a x)
+moved-on : (a : ℕ) (t : Bool) (x : Judged) → moved a (judgedWhen t x) ≡ judgedWhen t (moved a x)
 moved-on a true x = refl
 moved-on a false x = refl
 
@@ -89,8 +89,8 @@ module _ {a : ℕ} {t s : List ℕ} (w : Window a t s) where
         let h′ = rw e at h in
         rw (
           add-assoc,
-          records-window (begin (size 5) b (ofBoxes b q)) (geometryCount b q) p (omega arith),
-          drawn-window b n (q + 5) (p + geometryCount b q * total fs) (omega arith),
+          records-window (begin (size 5) b (ofBoxes b q)) (drawnCount b q) p (omega arith),
+          drawn-window b n (q + 5) (p + drawnCount b q * total fs) (omega arith),
           moved-or,
         )
 
@@ -136,13 +136,13 @@ module _ {a : ℕ} {t s : List ℕ} (w : Window a t s) where
           → ltb (layout (k + 1) .most) (leAt 2 t p) ≡ many
           → (sum : Bool)
           → addsUp (k + 1) b (leAt 2 t p) ≡ sum
-          → (on many (refused 4 (a + p))
-          or on (not sum) (refused 5 (a + p))
-          or judgeTable (k + 1) (layout (k + 1) .fields) (size k) b s (a + (p + 2)) (leAt 2 t p))
+          → (judgedWhen many (refused 4 (a + p))
+          andNext judgedWhen (not sum) (refused 5 (a + p))
+          andNext judgeTable (k + 1) (layout (k + 1) .fields) (size k) b s (a + (p + 2)) (leAt 2 t p))
           ≡ moved a
-          (on many (refused 4 p)
-          or on (not sum) (refused 5 p)
-          or judgeTable (k + 1) (layout (k + 1) .fields) (size k) b t (p + 2) (leAt 2 t p))
+          (judgedWhen many (refused 4 p)
+          andNext judgedWhen (not sum) (refused 5 p)
+          andNext judgeTable (k + 1) (layout (k + 1) .fields) (size k) b t (p + 2) (leAt 2 t p))
       go b true e sum f = refl
       go b false e false f = refl
       go b false e true f =

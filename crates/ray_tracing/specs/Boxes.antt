@@ -10,13 +10,13 @@ use Rattle.ray_tracing.specs.declared.BlasGeometry.{BlasGeometry}
 use Rattle.ray_tracing.specs.declared.BlasGeometrySizeDescriptor.{BlasGeometrySizeDescriptor}
 use Rattle.ray_tracing.specs.Causes.{Cause, cause, bare}
 use Rattle.ray_tracing.specs.Guard.{refuse, neb}
-use Rattle.ray_tracing.specs.Checks.{Checked, asks, refused, range, limit32, usable}
+use Rattle.ray_tracing.specs.Checks.{Checked, asks, refused, range, limit32, usableBuffer}
 use Rattle.ray_tracing.specs.Triangles.{declaredRule}
 
 -- "21, 22, 26 (stride or count times stride above 2^32 - 1), 23"
 abbrev pub regionRule : BlasGeometry → Buffer → Checked
 regionRule g b =
-    usable (g .buffer .0) b
+    usableBuffer (g .buffer .0) b
     (refuse
     (ltb limit32 (g .stride) || ltb limit32 (g .count * g .stride))
     (refused (cause 26 (stopped (g .count * g .stride)) (g .count) (g .stride)))

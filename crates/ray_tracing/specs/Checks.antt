@@ -42,27 +42,6 @@ abbrev pub limit32 : ℕ
 limit32 = 4294967295
 
 -- 21 destroyed, 22 no BLAS_INPUT, "E, sort (1 buffer, 2 Blas, 3 Tlas), id"
-abbrev pub usable : ℕ → Buffer → Checked → Checked
-usable id b rest =
+abbrev pub usableBuffer : ℕ → Buffer → Checked → Checked
+usableBuffer id b rest =
     refuse (b .destroyed) (refused (cause 21 1 id 0)) (refuse (not (b .«blas_input»)) (refused (cause 22 1 id 0)) rest)
-
--- What the code's values mean
-
-abbrev pub declaredOf : Declared → Option BlasGeometrySizeDescriptor
-declaredOf declared.Missing = none
-declaredOf (declared.Given d) = some d
-
-abbrev pub lentOf : GivenBuffer → Option Buffer
-lentOf given-buffer.Absent = none
-lentOf (given-buffer.Given b) = some b
-
-abbrev pub rangeOf : Range → List ℕ
-rangeOf r = r .buffer .0 ∷ r .start ∷ r .end ∷ []
-
-abbrev pub askedOf : Asked → List ℕ
-askedOf asked.Nothing = []
-askedOf (asked.Of r) = rangeOf r
-
-abbrev pub checkedOf : CheckedGeometry → Checked
-checkedOf (checked.Fine data-range index transform) = asks (rangeOf data-range ++ (askedOf index ++ askedOf transform))
-checkedOf (checked.Refused e) = refused (buildCause e)

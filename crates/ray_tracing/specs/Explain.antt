@@ -4,23 +4,21 @@ use Prim.Native.String.{String}
 use mathlib.Core.Bool.{Bool, true, false, _&&_, _||_, cond}
 use mathlib.Core.List.{List, [], _∷_, _++_}
 use lib.ListN.{length, getD}
-use lib.Seq.{sets}
-use lib.Dec.{ltb, eqb}
+use lib.Dec.{leb, eqb}
 use Rattle.ray_tracing.specs.declared.Sheet.{Sheet}
 use Rattle.ray_tracing.specs.Layout.{size}
-use Rattle.ray_tracing.specs.Reading.{Reading, accepted, rejected, readSheet}
+use Rattle.ray_tracing.specs.Reading.{Reading, accepted, rejected, readSheet, table}
 use Rattle.ray_tracing.specs.Records.{fieldAt}
-use Rattle.ray_tracing.specs.Causes.{Cause}
-use Rattle.ray_tracing.specs.Writing.{table, tablesOf}
-use Rattle.ray_tracing.specs.Plan.{Tables, Answer, recorded, nothing-recorded, not-built, planOf, build}
+use Rattle.ray_tracing.specs.Causes.{Cause, cause}
+use Rattle.ray_tracing.specs.Plan.{sheetTables, Tables, Building, recorded, nothing-recorded, not-built, planOf, build}
 use Rattle.ray_tracing.specs.Submission as submission
-use Rattle.ray_tracing.specs.Report.{ascii, decimal, positions, outcomeOf, report, Reporting, reporting}
+use Rattle.ray_tracing.specs.Report.{ascii, decimal, positions, sheetOutcome, report}
 
 infix 90 _is_
 -- What is refused
 
--- nothing; a sheet, by its number, at a byte place; a build, at E; or an action of the sheet, by its position and its kind. A report tells
--- at most one: "A refused sheet prints only `sheet`", "a refused build only its line"
+-- nothing; a sheet, by its number, at a byte place; a build, at E; or an action of the sheet, by its position and its kind. A report
+-- tells at most one: "A refused sheet prints only `sheet`", "a refused build only its line"
 pub data Refusal : Type 0 where
   nothing : Refusal
   of-sheet : ℕ → ℕ → Refusal
@@ -37,17 +35,17 @@ outcomeRefusal a places (submission._leaving_ (submission.refused i c) l) = acti
 
 unfoldable pub submitRefusal : ℕ → Tables → Bool → List ℕ → Refusal
 submitRefusal counter x wasRecorded a =
-    outcomeRefusal a (positions wasRecorded a 0 (length a / size 9)) (outcomeOf counter x wasRecorded a)
+    outcomeRefusal a (positions wasRecorded a 0 (length a / size 9)) (sheetOutcome counter x wasRecorded a)
 
-abbrev pub answerRefusal : ℕ → Tables → List ℕ → Answer → Refusal
+abbrev pub answerRefusal : ℕ → Tables → List ℕ → Building → Refusal
 answerRefusal counter x a (not-built e f c) = of-build e f c
 answerRefusal counter x a (nothing-recorded n) = submitRefusal counter x false a
 answerRefusal counter x a (recorded size w) = submitRefusal counter x true a
 
 unfoldable pub builtRefusal : List ℕ → Sheet → Refusal
 builtRefusal s x =
-    answerRefusal (x .counter) (tablesOf (x .alignment) (table s)) (table s 9)
-    (build (tablesOf (x .alignment) (table s)) (planOf (tablesOf (x .alignment) (table s))))
+    answerRefusal (x .counter) (sheetTables (x .alignment) (table s)) (table s 9)
+    (build (sheetTables (x .alignment) (table s)) (planOf (sheetTables (x .alignment) (table s))))
 
 abbrev pub readingRefusal : List ℕ → Reading → Refusal
 readingRefusal s (rejected n p) = of-sheet n p
@@ -119,17 +117,17 @@ pub record Item : Type 0 where
 abbrev pub _is_ : String → ℕ → Item
 w is n = record { word = w; value = n }
 
--- "sort (1 buffer, 2 Blas, 3 Tlas)"
+-- "sort (1 buffer, 2 Blas, 3 Tlas)"; there is no other
 abbrev pub sortWord : ℕ → String
-sortWord sort = cond (eqb sort 1) "buffer" (cond (eqb sort 2) "Blas" "Tlas")
+sortWord sort = cond (eqb sort 1) "buffer" (cond (eqb sort 2) "Blas" (cond (eqb sort 3) "Tlas" "resource"))
 
 -- a number of the table's that stands for one of those named
 abbrev pub oneOf : ℕ → List ℕ → Bool
 oneOf n [] = false
 oneOf n (m ∷ ms) = eqb n m || oneOf n ms
 
--- "E is entry and its geometry, or package and its slot, from 0 (second 0 where there is none)"; of 4 and 5 section and record; none of
--- 37 and 39
+-- "E is entry and its geometry, or package and its slot, from 0 (second 0 where there is none)"; of 4 and 5 section and record; none
+-- of 37 and 39
 abbrev pub placeItems : Cause → ℕ → ℕ → List Item
 placeItems c e f =
     cond (oneOf (c .number) (37 ∷ 39 ∷ [])) []
@@ -145,26 +143,34 @@ abbrev pub figureItems : Cause → List Item
 figureItems c =
     cond (oneOf (c .number) (12 ∷ 13 ∷ 14 ∷ 18 ∷ 19 ∷ 31 ∷ [])) ("declared" is c .first ∷ "given" is c .second ∷ [])
     (cond (oneOf (c .number) (15 ∷ 16 ∷ [])) ("needed" is c .first ∷ "given" is c .second ∷ [])
-    (cond (oneOf (c .number) (21 ∷ 22 ∷ [])) (sortWord (c .first) is c .second ∷ [])
+    (cond (eqb (c .number) 21) (sortWord (c .first) is c .second ∷ [])
+    (cond (eqb (c .number) 22) ("buffer" is c .second ∷ [])
     (cond (eqb (c .number) 23) ("offset" is c .first ∷ "region" is c .second ∷ "size" is c .third ∷ [])
     (cond (eqb (c .number) 26) ("offset" is c .first ∷ "count" is c .second ∷ "stride" is c .third ∷ [])
     (cond (eqb (c .number) 27) ("count" is c .first ∷ [])
     (cond (eqb (c .number) 33) ("stride" is c .first ∷ [])
-    (cond (eqb (c .number) 36) ("count" is c .first ∷ "most" is c .second ∷ []) [])))))))
+    (cond (eqb (c .number) 36) ("count" is c .first ∷ "most" is c .second ∷ []) []))))))))
 
--- "1 the recorded build, 2 use of a Tlas, 3 mark of one Blas, 4 mark of one Tlas"
+-- "1 the recorded build, 2 use of a Tlas, 3 mark of one Blas, 4 mark of one Tlas"; any other is not known
 abbrev pub kindWords : ℕ → String
 kindWords kind =
     cond (eqb kind 1) "recorded build at action"
-    (cond (eqb kind 2) "use of a Tlas at action" (cond (eqb kind 3) "mark of a Blas at action" "mark of a Tlas at action"))
+    (cond (eqb kind 2) "use of a Tlas at action"
+    (cond (eqb kind 3) "mark of a Blas at action" (cond (eqb kind 4) "mark of a Tlas at action" "action")))
 
--- the column "Returned" of a submission, the action apart: "42 gives Blas, Tlas in a Build and Tlas, Blas in a use"
+-- "42 gives Blas, Tlas in a Build and Tlas, Blas in a use"
+abbrev pub unbuiltItems : ℕ → ℕ → ℕ → List Item
+unbuiltItems kind first second =
+    cond (eqb kind 1) ("Blas" is first ∷ "Tlas" is second ∷ [])
+    (cond (eqb kind 2) ("Tlas" is first ∷ "Blas" is second ∷ []) ("Blas or Tlas" is first ∷ "Tlas or Blas" is second ∷ []))
+
+-- the column "Returned" of a submission, the action apart
 abbrev pub actionItems : ℕ → Cause → List Item
 actionItems kind c =
     cond (oneOf (c .number) (21 ∷ 41 ∷ [])) ("Blas" is c .first ∷ [])
+    (cond (eqb (c .number) 42) (unbuiltItems kind (c .first) (c .second))
     (cond (eqb (c .number) 43) ("Tlas" is c .first ∷ [])
-    (cond (eqb (c .number) 42 && eqb kind 2) ("Tlas" is c .first ∷ "Blas" is c .second ∷ [])
-    (cond (oneOf (c .number) (42 ∷ 44 ∷ [])) ("Blas" is c .first ∷ "Tlas" is c .second ∷ []) [])))
+    (cond (eqb (c .number) 44) ("Blas" is c .first ∷ "Tlas" is c .second ∷ []) [])))
 
 -- each item after a comma
 unfoldable pub itemBytes : List Item → List ℕ
@@ -181,15 +187,38 @@ explanation (of-sheet n place) = refusedLine n ("byte" is place ∷ [])
 explanation (of-build e f c) = refusedLine (c .number) (placeItems c e f ++ figureItems c)
 explanation (of-action i kind c) = refusedLine (c .number) (kindWords kind is i ∷ actionItems kind c)
 
+-- The words of a call's refusal, by the numbers that it answers
+
+-- a number from a to b
+abbrev pub between : ℕ → ℕ → ℕ → Bool
+between a b n = leb a n && leb n b
+
+-- the numbers that a call can refuse with: 1 reads a sheet, 2 builds, 3 submits, 4 appends an instance
+abbrev pub refusesWith : ℕ → ℕ → Bool
+refusesWith call n =
+    cond (eqb call 1) (between 1 5 n)
+    (cond (eqb call 2) (between 4 6 n || between 10 39 n)
+    (cond (eqb call 3) (between 4 6 n || (eqb n 21 || between 39 44 n))
+    (cond (eqb call 4) (eqb n 6 || (between 34 35 n || eqb n 39)) false)))
+
+-- the line, by what e and f are in that call: a place; E; the action and its kind, 0 where it is not known; nothing
+abbrev pub callLine : ℕ → ℕ → ℕ → Cause → List ℕ
+callLine call e f c =
+    cond (eqb call 1) (explanation (of-sheet (c .number) e))
+    (cond (eqb call 2) (explanation (of-build e f c))
+    (cond (eqb call 3) (explanation (of-action e f c)) (refusedLine (c .number) [])))
+
+abbrev pub noSuchCause : ℕ → List ℕ
+noSuchCause n = ascii "refused " ++ (decimal n ++ ascii ": no such cause\n")
+
+-- number 0 refuses nothing
+unfoldable pub wordsOf : ℕ → ℕ → ℕ → ℕ → ℕ → ℕ → ℕ → List ℕ
+wordsOf call n e f x y z =
+    cond (eqb n 0) (explanation nothing)
+    (cond (refusesWith call n) (callLine call e f (cause n x y z)) (noSuchCause n))
+
 -- The text
 
 -- the report's lines, and the explanation below them
 unfoldable pub explained : List ℕ → List ℕ
 explained s = report s ++ explanation (refusalIn s)
-
--- written as a report is: 39 where it doesn't fit, and then nothing is written; past it the bytes are kept
-unfoldable pub explainRule : List ℕ → ℕ → Reporting
-explainRule s room = cond (ltb room (length (explained s))) (reporting 39 0) (reporting 0 (length (explained s)))
-
-unfoldable pub explainBytes : List ℕ → List ℕ → List ℕ
-explainBytes s out = cond (ltb (length out) (length (explained s))) out (sets out 0 (explained s))

@@ -62,14 +62,14 @@ pub record Latest : Type 0 where
   pub dependencies : List ℕ
 
 -- the first of two
-abbrev pub firstOf : {A : Type 0} → Option A → Option A → Option A
-firstOf (some x) y = some x
-firstOf none y = y
+abbrev pub firstGiven : {A : Type 0} → Option A → Option A → Option A
+firstGiven (some x) y = some x
+firstGiven none y = y
 
 -- the list that a Build lists last for t
 abbrev pub listed : ℕ → List Package → Option (List ℕ)
 listed t [] = none
-listed t (p ∷ ps) = firstOf (listed t ps) (elim (eqb t (p .tlas)) [ true ↦ some (p .dependencies) | false ↦ none ])
+listed t (p ∷ ps) = firstGiven (listed t ps) (elim (eqb t (p .tlas)) [ true ↦ some (p .dependencies) | false ↦ none ])
 
 abbrev pub builtWith : ℕ → Option (List ℕ) → Latest → Latest
 builtWith n none x = x
@@ -89,7 +89,7 @@ since (e ∷ h) t = elim (listed t (e .tlases)) [ some d ↦ [] | none ↦ e ∷
 abbrev pub cellListed : ℕ → ℕ → List Package → Option ℕ
 cellListed t i [] = none
 cellListed t i (p ∷ ps) =
-    firstOf (cellListed t i ps)
+    firstGiven (cellListed t i ps)
     (elim (eqb t (p .tlas) && ltb i (length (p .dependencies))) [ true ↦ some (getD (p .dependencies) i 0) | false ↦ none ])
 
 abbrev pub cell : Lent → List Built → ℕ → ℕ → ℕ

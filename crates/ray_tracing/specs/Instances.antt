@@ -1,5 +1,6 @@
 -- Instances: their 64 bytes, how they stand in slots, what is judged of one, and what appending it does. Assumes nothing.
 use Prim.Native.Nat.{ℕ, zero, suc, _+_, _*_, _/_, _%_, _^_}
+use mathlib.Core.Path.{_≡_}
 use mathlib.Core.Bool.{Bool, not, _&&_, cond}
 use mathlib.Core.List.{List, [], _∷_, _++_, map}
 use lib.ListN.{length, getD, drop}
@@ -132,6 +133,19 @@ instanceFrom s at =
 abbrev pub instanceAt : List ℕ → ℕ → TlasInstance
 instanceAt s at = instanceFrom s (placeOf (slots .fields) at 1)
 
+-- the VkAccelerationStructureInstanceKHR that the slot at a place says: its twelve numbers by their bits, its custom data and mask, and its
+-- Blas's address
+abbrev pub vkSlot : List ℕ → List ℕ → ℕ → VkAccelerationStructureInstanceKHR
+vkSlot blases s at =
+    record {
+      matrix = λ r c. leAt 4 s (placeOf (slots .fields) at 4 + 4 * (4 * r + c));
+      instanceCustomIndex = fieldAt 8 s at 2;
+      mask = fieldAt 8 s at 3;
+      instanceShaderBindingTableRecordOffset = 0;
+      flags = 0;
+      accelerationStructureReference = blasOf blases (fieldAt 8 s at 1) .handle;
+    }
+
 -- whether the slot at a place is present
 abbrev pub presentAt : List ℕ → ℕ → Bool
 presentAt s at = neb (fieldAt 8 s at 0) 0
@@ -179,11 +193,6 @@ slotMention blases s at = cond (presentAt s at) (blasMention blases (fieldAt 8 s
 abbrev pub slotRule : Tlas → List ℕ → List ℕ → ℕ → ℕ
 slotRule tlas blases s at = cond (presentAt s at) (instanceRule tlas (blasOf blases (fieldAt 8 s at 1)) (fieldAt 8 s at 2)) 0
 
--- the cause of what the code finds
-abbrev pub instanceCause : CheckedInstance → Cause
-instanceCause checked.Fine = bare 0
-instanceCause (checked.Refused e) = buildCause e
-
 -- Appending one instance
 
 -- the bytes in use after it, or the cause; E is 0, 0
@@ -217,4 +226,26 @@ bytesAfter (refused c) new old = old
 
 unfoldable pub appendBytes : List ℕ → List ℕ → TlasId → TlasInstance → List ℕ → ℕ → List ℕ
 appendBytes tlases blases tlas i instances used =
-    bytesAfter (appendRule tlases blases tlas i (length instances) used) (sets instances used (instanceBytes i (addressFor blases i))) instances
+    bytesAfter
+    (appendRule tlases blases tlas i (length instances) used)
+    (sets instances used (instanceBytes i (addressFor blases i)))
+    instances
+
+-- a call of it, lent the bytes b with so many in use: it answered a, by what it says of that, and left p
+pub record AppendsAs
+    {A : Type 0}
+    (says : Appending → A)
+    (tlases blases : List ℕ)
+    (tlas : TlasId)
+    (i : TlasInstance)
+    (b : List ℕ)
+    (used : ℕ)
+    (a : A)
+    (p : List ℕ)
+    : Type 0 where
+  pub answer : a ≡ says (appendRule tlases blases tlas i (length b) used)
+  pub left : p ≡ appendBytes tlases blases tlas i b used
+
+-- it answered a itself
+abbrev pub Appends : List ℕ → List ℕ → TlasId → TlasInstance → List ℕ → ℕ → Appending → List ℕ → Type 0
+Appends tlases blases tlas i b used a p = AppendsAs (λ r. r) tlases blases tlas i b used a p

@@ -13,7 +13,9 @@ pub mod Submission
 pub mod History
 pub mod Claim
 pub mod Writing
-pub mod DemandExamples
-pub mod Examples
 pub mod Report
 pub mod Explain
+pub mod Answers
+pub mod Code
+pub mod Parts
+pub mod Sizes

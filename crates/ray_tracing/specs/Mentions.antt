@@ -42,8 +42,3 @@ blasOf table id = blasAt table (id * size 2)
 
 abbrev pub tlasOf : List ℕ → ℕ → Tlas
 tlasOf table id = tlasAt table (id * size 4)
-
--- the number of what the code finds at a mention
-abbrev pub mentionOf : Mentioned → ℕ
-mentionOf mentioned.Inside = 0
-mentionOf mentioned.InvalidResource = 6

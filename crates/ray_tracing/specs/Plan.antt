@@ -1,5 +1,6 @@
 -- "Building, in order": the first refusal with E and its figures, or the plan and the recorded action. Assumes nothing.
 use Prim.Native.Nat.{ℕ, zero, suc, _+_, _-_, _*_, _/_, _%_, _^_, max}
+use mathlib.Core.Path.{_≡_}
 use mathlib.Core.Bool.{Bool, true, false, not, _||_, cond}
 use mathlib.Core.Option.{Option, none, some}
 use mathlib.Core.List.{List, [], _∷_, _++_}
@@ -24,7 +25,7 @@ use Rattle.ray_tracing.specs.Reading as reading
 use Rattle.ray_tracing.specs.Records.{fieldAt, bufferAt, blasAt, declaredAt, tlasAt, entryAt, geometryAt, packageAt}
 use Rattle.ray_tracing.specs.Causes.{Cause, cause, bare, buildCause}
 use Rattle.ray_tracing.specs.Checks as checks
-use Rattle.ray_tracing.specs.Triangles.{lent, trianglesRule}
+use Rattle.ray_tracing.specs.Triangles.{unlessNone, trianglesRule}
 use Rattle.ray_tracing.specs.Boxes.{boxesRule}
 use Rattle.ray_tracing.specs.Mentions.{bufferMention, blasMention, tlasMention, bufferOf, blasOf, tlasOf}
 use Rattle.ray_tracing.specs.Instances.{presentAt, slotMention, slotRule, presentOf, slotsBytes}
@@ -42,6 +43,26 @@ pub record Tables : Type 0 where
   pub packages : List ℕ
   pub slots : List ℕ
 
+-- the scratch alignment and the eight tables, as a call is lent them
+abbrev pub tablesOf : ℕ → List ℕ → List ℕ → List ℕ → List ℕ → List ℕ → List ℕ → List ℕ → List ℕ → Tables
+tablesOf alignment buffers blases declared tlases entries geometries packages slots =
+    record {
+      alignment = alignment;
+      buffers = buffers;
+      blases = blases;
+      declared = declared;
+      tlases = tlases;
+      entries = entries;
+      geometries = geometries;
+      packages = packages;
+      slots = slots;
+    }
+
+-- those of a sheet, by section
+abbrev pub sheetTables : ℕ → (ℕ → List ℕ) → Tables
+sheetTables alignment table =
+    tablesOf alignment (table 1) (table 2) (table 3) (table 4) (table 5) (table 6) (table 7) (table 8)
+
 -- nothing to refuse, or the first refusal: "E is entry and its geometry, or package and its slot, from 0 (second 0 where there is none)"
 pub data Verdict : Type 0 where
   passed : Verdict
@@ -55,11 +76,6 @@ on false v = passed
 abbrev pub _or_ : Verdict → Verdict → Verdict
 _or_ passed v = v
 _or_ (refused e f c) v = refused e f c
-
--- what the code's verdict says
-abbrev pub verdictOf : code-verdict.Verdict → Verdict
-verdictOf verdict.Passed = passed
-verdictOf (verdict.Refused c e f) = refused e f (buildCause c)
 
 -- a cause with no figures, by its number, at E; 0 is none
 abbrev pub atE : ℕ → ℕ → ℕ → Verdict
@@ -128,9 +144,6 @@ slotPresent slots s = presentAt slots (s * size 8)
 abbrev pub slotBlas : List ℕ → ℕ → ℕ
 slotBlas slots s = fieldAt 8 slots (s * size 8) 1
 
-abbrev pub slotCustomData : List ℕ → ℕ → ℕ
-slotCustomData slots s = fieldAt 8 slots (s * size 8) 2
-
 -- "A Blas's list is its records in order": of the n declared geometries from i on, those of the Blas
 unfoldable pub declaredFrom : List ℕ → ℕ → ℕ → ℕ → List BlasGeometrySizeDescriptor
 declaredFrom t blas i zero = []
@@ -153,12 +166,12 @@ abbrev pub bySection : ℕ → reading.Judged → Verdict
 bySection k reading.fine = passed
 bySection k (reading.refused n r) = refused k r (bare n)
 
-abbrev pub judgeSection : Tables → ℕ → Verdict
-judgeSection x k = bySection k (reading.judgeLent k (layout k) (size (k - 1)) (tableOf x (k - 1)) (tableOf x k))
+abbrev pub judgeLentSection : Tables → ℕ → Verdict
+judgeLentSection x k = bySection k (reading.judgeLent k (layout k) (size (k - 1)) (tableOf x (k - 1)) (tableOf x k))
 
 -- "0, 0 for the scratch alignment"
 unfoldable pub judgeTables : Tables → Verdict
-judgeTables x = on (eqb (x .alignment) 0) (refused 0 0 (bare 5)) or firstOf (judgeSection x) 1 8
+judgeTables x = on (eqb (x .alignment) 0) (refused 0 0 (bare 5)) or firstOf (judgeLentSection x) 1 8
 
 -- "Ids first: per entry, each geometry's data, index and transform buffer, then the Blas; per package, each present slot's Blas, then
 -- the Tlas."
@@ -200,8 +213,8 @@ checkedAt x i j g =
     (declaredOf x (entryOf x i .blas .0) j)
     (geometryOf x g)
     (bufferOf (x .buffers) (geometryOf x g .buffer .0))
-    (lent (bufferOf (x .buffers)) (geometryOf x g .«index_buffer» .0))
-    (lent (bufferOf (x .buffers)) (geometryOf x g .«transform_buffer» .0)))
+    (unlessNone (bufferOf (x .buffers)) (geometryOf x g .«index_buffer» .0))
+    (unlessNone (bufferOf (x .buffers)) (geometryOf x g .«transform_buffer» .0)))
     (boxesRule
     (blasOfEntry x i)
     (declaredOf x (entryOf x i .blas .0) j)
@@ -294,6 +307,19 @@ pub record Outputs : Type 0 where
   pub compactable : List ℕ
   pub lists : List ℕ
 
+-- as a call is lent them
+abbrev pub outputsOf : List ℕ → List ℕ → List ℕ → List ℕ → List ℕ → List ℕ → List ℕ → Outputs
+outputsOf blas-offsets tlas-offsets staging-ranges instances init-ranges compactable lists =
+    record {
+      «blas_offsets» = blas-offsets;
+      «tlas_offsets» = tlas-offsets;
+      «staging_ranges» = staging-ranges;
+      instances = instances;
+      «init_ranges» = init-ranges;
+      compactable = compactable;
+      lists = lists;
+    }
+
 -- "Package ranges follow on without gap or overlap, 64 bytes per present slot": of n packages from p on, whose slots stand from s on
 unfoldable pub stagingFrom : Tables → ℕ → ℕ → ℕ → ℕ → List ℕ
 stagingFrom x start p s zero = []
@@ -354,7 +380,7 @@ planOf x =
 
 -- "Last: 39": each output against what this build writes
 abbrev pub short : List ℕ → List ℕ → Bool
-short values lent = ltb (length lent) (length values)
+short values unlessNone = ltb (length unlessNone) (length values)
 
 abbrev pub tooShort : Outputs → Outputs → Bool
 tooShort p o =
@@ -381,23 +407,23 @@ countsOf p =
     }
 
 -- recorded, with the scratch size and the counts; nothing recorded, with the count of the initialisation ranges' cells; or refused
-pub data Answer : Type 0 where
-  recorded : ℕ → Written → Answer
-  nothing-recorded : ℕ → Answer
-  not-built : ℕ → ℕ → Cause → Answer
+pub data Building : Type 0 where
+  recorded : ℕ → Written → Building
+  nothing-recorded : ℕ → Building
+  not-built : ℕ → ℕ → Cause → Building
 
 -- what the code's answer says
-abbrev pub answerOf : Built → Answer
-answerOf (built.Recorded size w) = recorded size w
-answerOf (built.NothingRecorded n) = nothing-recorded n
-answerOf (built.Refused c e f) = not-built e f (buildCause c)
+abbrev pub buildingOf : Built → Building
+buildingOf (built.Recorded size w) = recorded size w
+buildingOf (built.NothingRecorded n) = nothing-recorded n
+buildingOf (built.Refused c e f) = not-built e f (buildCause c)
 
-abbrev pub unless : Verdict → Answer → Answer
+abbrev pub unless : Verdict → Building → Building
 unless passed a = a
 unless (refused e f c) a = not-built e f c
 
 -- "Larger total 0: accepted, nothing recorded, only initialisation ranges written (39 if short)"
-unfoldable pub build : Tables → Outputs → Answer
+unfoldable pub build : Tables → Outputs → Building
 build x o =
     unless (judgeTables x or judgeIds x or judgeEntries x or judgePackages x)
     (cond (eqb (scratchSize x) 0)
@@ -418,18 +444,24 @@ written p o =
     }
 
 abbrev pub onlyRanges : Outputs → Outputs → Outputs
-onlyRanges p o =
-    record {
-      «blas_offsets» = o .«blas_offsets»;
-      «tlas_offsets» = o .«tlas_offsets»;
-      «staging_ranges» = o .«staging_ranges»;
-      instances = o .instances;
-      «init_ranges» = sets (o .«init_ranges») 0 (p .«init_ranges»);
-      compactable = o .compactable;
-      lists = o .lists;
-    }
+onlyRanges p o = written (outputsOf [] [] [] [] (p .«init_ranges») [] []) o
 
-abbrev pub leaves : Answer → Outputs → Outputs → Outputs
+abbrev pub leaves : Building → Outputs → Outputs → Outputs
 leaves (recorded n w) p o = written p o
 leaves (nothing-recorded n) p o = onlyRanges p o
 leaves (not-built e f c) p o = o
+
+-- what a build leaves of its outputs
+abbrev pub outputsAfter : Tables → Outputs → Outputs
+outputsAfter x o = leaves (build x o) (planOf x) o
+
+-- A call
+
+-- lent the tables x and the outputs o, it answered a, by what it says of a build, and left p
+pub record BuildsAs {A : Type 0} (says : Building → A) (x : Tables) (o : Outputs) (a : A) (p : Outputs) : Type 0 where
+  pub answer : a ≡ says (build x o)
+  pub left : p ≡ outputsAfter x o
+
+-- it answered a itself
+abbrev pub Builds : Tables → Outputs → Building → Outputs → Type 0
+Builds x o a p = BuildsAs (λ b. b) x o a p

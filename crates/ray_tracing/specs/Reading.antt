@@ -10,37 +10,37 @@ use Rattle.ray_tracing.specs.declared.Section.{Section}
 use Rattle.ray_tracing.specs.declared.Sheet.{Sheet}
 use Rattle.ray_tracing.specs.Layout.{Seen, Field, fits, Layout, layout, total, size}
 
-infixr 20 _or_
+infixr 20 _andNext_
 -- nothing to refuse, or a refusal's number and its place: the first byte of the judged field, or a lent table's record
 pub data Judged : Type 0 where
   fine : Judged
   refused : ℕ → ℕ → Judged
 
-abbrev pub on : Bool → Judged → Judged
-on true j = j
-on false j = fine
+abbrev pub judgedWhen : Bool → Judged → Judged
+judgedWhen true j = j
+judgedWhen false j = fine
 
 -- the first of two
-abbrev pub _or_ : Judged → Judged → Judged
-_or_ fine j = j
-_or_ (refused n p) j = refused n p
+abbrev pub _andNext_ : Judged → Judged → Judged
+_andNext_ fine j = j
+_andNext_ (refused n p) j = refused n p
 
 -- "for 2 the field that isn't whole"; 5 for a value outside its field
 abbrev pub judgeField : Seen → List ℕ → ℕ → Field → Judged
 judgeField c s at f =
-    on (ltb (length s) (at + f .width)) (refused 2 at)
-    or on (not (fits f c (leAt (f .width) s at))) (refused 5 at)
+    judgedWhen (ltb (length s) (at + f .width)) (refused 2 at)
+    andNext judgedWhen (not (fits f c (leAt (f .width) s at))) (refused 5 at)
 
 -- a record's fields, one after the other
 unfoldable pub judgeFields : Seen → List ℕ → ℕ → List Field → Judged
 judgeFields c s at [] = fine
 judgeFields c s at (f ∷ fs) =
-    judgeField c s at f or judgeFields (f .after c (leAt (f .width) s at)) s (at + f .width) fs
+    judgeField c s at f andNext judgeFields (f .after c (leAt (f .width) s at)) s (at + f .width) fs
 
 -- n records, end to end
 unfoldable pub judgeRecords : Seen → List Field → List ℕ → ℕ → ℕ → Judged
 judgeRecords c fs s at zero = fine
-judgeRecords c fs s at (suc n) = judgeFields c s at fs or judgeRecords c fs s (at + total fs) n
+judgeRecords c fs s at (suc n) = judgeFields c s at fs andNext judgeRecords c fs s (at + total fs) n
 
 -- what is known where a record begins: the records t of the section before, w bytes each, and the record's kind
 abbrev pub begin : ℕ → List ℕ → Bool → Seen
@@ -50,15 +50,15 @@ begin w t boxes = record { before = t; each = w; boxes = boxes; none = false; ta
 abbrev pub ofBoxes : List ℕ → ℕ → Bool
 ofBoxes t q = eqb (leAt 1 t (q + 2)) 1
 
-abbrev pub geometryCount : List ℕ → ℕ → ℕ
-geometryCount t q = leAt 2 t (q + 3)
+abbrev pub drawnCount : List ℕ → ℕ → ℕ
+drawnCount t q = leAt 2 t (q + 3)
 
 -- the geometries that n entries of t, from the one at q on, draw in turn, each by its entry's kind
 unfoldable pub judgeDrawn : List Field → List ℕ → ℕ → List ℕ → ℕ → ℕ → Judged
 judgeDrawn fs t q s at zero = fine
 judgeDrawn fs t q s at (suc n) =
-    judgeRecords (begin (size 5) t (ofBoxes t q)) fs s at (geometryCount t q)
-    or judgeDrawn fs t (q + size 5) s (at + geometryCount t q * total fs) n
+    judgeRecords (begin (size 5) t (ofBoxes t q)) fs s at (drawnCount t q)
+    andNext judgeDrawn fs t (q + size 5) s (at + drawnCount t q * total fs) n
 
 -- the n records of section k with the fields fs, after the records t of the section before, w bytes each
 abbrev pub judgeTable : ℕ → List Field → ℕ → List ℕ → List ℕ → ℕ → ℕ → Judged
@@ -88,27 +88,31 @@ unfoldable pub from : List ℕ → ℕ → ℕ
 from s zero = 1 + size 0
 from s (suc k) = past s k + 2
 
+-- the records of section k of a sheet
+abbrev pub table : List ℕ → ℕ → List ℕ
+table s k = take (past s k - from s k) (drop (from s k) s)
+
 -- the section after section k, whose records stand from a on: its count at p (2, then 4), the sum (5), then its records
 unfoldable pub judgeSection : List ℕ → ℕ → ℕ → ℕ → Judged
 judgeSection s k a p =
-    on (ltb (length s) (p + 2)) (refused 2 p)
-    or on (ltb (layout (k + 1) .most) (leAt 2 s p)) (refused 4 p)
-    or on (not (addsUp (k + 1) (take (p - a) (drop a s)) (leAt 2 s p))) (refused 5 p)
-    or judgeTable (k + 1) (layout (k + 1) .fields) (size k) (take (p - a) (drop a s)) s (p + 2) (leAt 2 s p)
+    judgedWhen (ltb (length s) (p + 2)) (refused 2 p)
+    andNext judgedWhen (ltb (layout (k + 1) .most) (leAt 2 s p)) (refused 4 p)
+    andNext judgedWhen (not (addsUp (k + 1) (take (p - a) (drop a s)) (leAt 2 s p))) (refused 5 p)
+    andNext judgeTable (k + 1) (layout (k + 1) .fields) (size k) (take (p - a) (drop a s)) s (p + 2) (leAt 2 s p)
 
 -- the n sections after section k
 unfoldable pub judgeSections : List ℕ → ℕ → ℕ → Judged
 judgeSections s k zero = fine
-judgeSections s k (suc n) = judgeSection s k (from s k) (past s k) or judgeSections s (k + 1) n
+judgeSections s k (suc n) = judgeSection s k (from s k) (past s k) andNext judgeSections s (k + 1) n
 
 -- "version not 1; sheet ends early; bytes after it": 1 at the version byte, and "for 3 the first byte left over"
 unfoldable pub judgeSheet : List ℕ → Judged
 judgeSheet s =
-    on (ltb (length s) 1) (refused 2 0)
-    or on (not (eqb (leAt 1 s 0) 1)) (refused 1 0)
-    or judgeRecords (begin 0 [] false) (layout 0 .fields) s 1 1
-    or judgeSections s 0 9
-    or on (ltb (past s 9) (length s)) (refused 3 (past s 9))
+    judgedWhen (ltb (length s) 1) (refused 2 0)
+    andNext judgedWhen (not (eqb (leAt 1 s 0) 1)) (refused 1 0)
+    andNext judgeRecords (begin 0 [] false) (layout 0 .fields) s 1 1
+    andNext judgeSections s 0 9
+    andNext judgedWhen (ltb (past s 9) (length s)) (refused 3 (past s 9))
 
 -- what is read where nothing is refused: version, alignment, counter, and of each section where its records begin and how many it has
 abbrev pub sectionOf : List ℕ → ℕ → Section
@@ -142,14 +146,6 @@ answer (refused n p) sheet = rejected n p
 unfoldable pub readSheet : List ℕ → Reading
 readSheet s = answer (judgeSheet s) (sheetOf s)
 
--- the longest sheet that is accepted
-unfoldable pub sectionsUpTo : ℕ → ℕ
-sectionsUpTo zero = 0
-sectionsUpTo (suc k) = sectionsUpTo k + 2 + layout (k + 1) .most * size (k + 1)
-
-abbrev pub longest : ℕ
-longest = 1 + size 0 + sectionsUpTo 9
-
 -- A lent table
 
 -- a place as the number of its record
@@ -161,7 +157,7 @@ byRecord w (refused n p) = refused n (p / w)
 -- stands for section k, after the table t of the section before; bytes of a part record at its end are a value outside its field
 unfoldable pub judgeLent : ℕ → Layout → ℕ → List ℕ → List ℕ → Judged
 judgeLent k l w t s =
-    on (ltb (l .most) (length s / total (l .fields))) (refused 4 0)
-    or on (not (addsUp k t (length s / total (l .fields)))) (refused 5 0)
-    or byRecord (total (l .fields)) (judgeTable k (l .fields) w t s 0 (length s / total (l .fields)))
-    or on (not (eqb (length s % total (l .fields)) 0)) (refused 5 (length s / total (l .fields)))
+    judgedWhen (ltb (l .most) (length s / total (l .fields))) (refused 4 0)
+    andNext judgedWhen (not (addsUp k t (length s / total (l .fields)))) (refused 5 0)
+    andNext byRecord (total (l .fields)) (judgeTable k (l .fields) w t s 0 (length s / total (l .fields)))
+    andNext judgedWhen (not (eqb (length s % total (l .fields)) 0)) (refused 5 (length s / total (l .fields)))

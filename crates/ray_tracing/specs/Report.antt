@@ -4,6 +4,7 @@ use Prim.Native.Nat.{ℕ, zero, suc, _+_, _*_, _/_, _%_}
 use Prim.Native.Char.{code}
 use Prim.Native.String as string
 use Prim.Native.String.{String}
+use mathlib.Core.Path.{_≡_}
 use mathlib.Core.Bool.{Bool, true, false, _||_, cond}
 use mathlib.Core.List.{List, [], _∷_, _++_}
 use lib.ListN.{length, getD, replicate}
@@ -13,11 +14,10 @@ use Rattle.ray_tracing.specs.declared.Sheet.{Sheet}
 use Rattle.ray_tracing.specs.declared.Reported.{Reported}
 use Rattle.ray_tracing.specs.declared.Reported.the-variants as reported
 use Rattle.ray_tracing.specs.Layout.{layout, size}
-use Rattle.ray_tracing.specs.Reading.{Reading, accepted, rejected, readSheet}
+use Rattle.ray_tracing.specs.Reading.{Reading, accepted, rejected, readSheet, table}
 use Rattle.ray_tracing.specs.Records.{fieldAt}
 use Rattle.ray_tracing.specs.Causes.{Cause, bare}
-use Rattle.ray_tracing.specs.Writing.{table, tablesOf}
-use Rattle.ray_tracing.specs.Plan.{Tables, Answer, recorded, nothing-recorded, not-built, recordsIn, entryOf, packageOf, planOf, build}
+use Rattle.ray_tracing.specs.Plan.{sheetTables, Tables, Building, recorded, nothing-recorded, not-built, recordsIn, entryOf, packageOf, planOf, build}
 use Rattle.ray_tracing.specs.Submission as submission
 
 -- a number in decimal, with at most so many digits
@@ -85,8 +85,8 @@ tlasLines x p (suc n) =
 -- The submission of a sheet's actions
 
 -- "Starting plant lists are empty"
-abbrev pub lentOf : ℕ → Tables → submission.Lent
-lentOf counter x =
+abbrev pub sheetStart : ℕ → Tables → submission.Lent
+sheetStart counter x =
     record {
       counter = counter;
       blases = x .blases;
@@ -117,12 +117,12 @@ positions wasRecorded a i zero = []
 positions wasRecorded a i (suc n) =
     cond (kept wasRecorded (fieldAt 9 a (i * size 9) 0)) (i ∷ []) [] ++ positions wasRecorded a (i + 1) n
 
-abbrev pub pieceOf : Tables → Bool → List ℕ → submission.Piece
-pieceOf x wasRecorded a =
+abbrev pub sheetPiece : Tables → Bool → List ℕ → submission.Piece
+sheetPiece x wasRecorded a =
     record { actions = actionCells x wasRecorded a 0 (length a / size 9); lists = cond wasRecorded (planOf x .lists) [] }
 
-abbrev pub outcomeOf : ℕ → Tables → Bool → List ℕ → submission.Outcome
-outcomeOf counter x wasRecorded a = submission.submission (lentOf counter x) (submission.decode (pieceOf x wasRecorded a))
+abbrev pub sheetOutcome : ℕ → Tables → Bool → List ℕ → submission.Outcome
+sheetOutcome counter x wasRecorded a = submission.submission (sheetStart counter x) (submission.decode (sheetPiece x wasRecorded a))
 
 -- "`submit` number, action, two figures; `next` counter"; a passed-over action keeps its position
 abbrev pub submitNumbers : List ℕ → submission.Answer → List ℕ
@@ -134,7 +134,7 @@ outcomeLines places (submission._leaving_ a l) = line word-submit (submitNumbers
 
 unfoldable pub submitLines : ℕ → Tables → Bool → List ℕ → List ℕ
 submitLines counter x wasRecorded a =
-    outcomeLines (positions wasRecorded a 0 (length a / size 9)) (outcomeOf counter x wasRecorded a)
+    outcomeLines (positions wasRecorded a 0 (length a / size 9)) (sheetOutcome counter x wasRecorded a)
 
 -- The lines of a sheet
 
@@ -142,7 +142,7 @@ abbrev pub buildLine : ℕ → ℕ → Cause → List ℕ
 buildLine e f c = line word-build (c .number ∷ e ∷ f ∷ c .first ∷ c .second ∷ c .third ∷ [])
 
 -- "a refused build only its line. With nothing recorded, only `build`, `submit`, `next` are printed"
-abbrev pub answerLines : ℕ → Tables → List ℕ → Answer → List ℕ
+abbrev pub answerLines : ℕ → Tables → List ℕ → Building → List ℕ
 answerLines counter x a (not-built e f c) = buildLine e f c
 answerLines counter x a (nothing-recorded n) = buildLine 0 0 (bare 0) ++ submitLines counter x false a
 answerLines counter x a (recorded size w) =
@@ -153,8 +153,8 @@ answerLines counter x a (recorded size w) =
 -- built with room for all that it writes
 unfoldable pub builtLines : List ℕ → Sheet → List ℕ
 builtLines s x =
-    answerLines (x .counter) (tablesOf (x .alignment) (table s)) (table s 9)
-    (build (tablesOf (x .alignment) (table s)) (planOf (tablesOf (x .alignment) (table s))))
+    answerLines (x .counter) (sheetTables (x .alignment) (table s)) (table s 9)
+    (build (sheetTables (x .alignment) (table s)) (planOf (sheetTables (x .alignment) (table s))))
 
 -- "A refused sheet prints only `sheet`, number, place"
 abbrev pub readingLines : List ℕ → Reading → List ℕ
@@ -163,22 +163,6 @@ readingLines s (accepted x) = builtLines s x
 
 unfoldable pub report : List ℕ → List ℕ
 report s = readingLines s (readSheet s)
-
--- The most bytes that any sheet prints
-
--- of a line with n numbers
-abbrev pub longestLine : List ℕ → ℕ → ℕ
-longestLine word n = length word + n * 21 + 1
-
--- as many entries and packages as a sheet may have
-abbrev pub longestReport : ℕ
-longestReport =
-    longestLine word-build 6
-    + longestLine word-scratch 1
-    + layout 5 .most * longestLine word-blas 2
-    + layout 7 .most * longestLine word-tlas 4
-    + longestLine word-submit 4
-    + longestLine word-next 1
 
 -- The lines written into lent bytes
 
@@ -195,9 +179,18 @@ abbrev pub reportedOf : Reported → Reporting
 reportedOf (reported.Written n) = reporting 0 n
 reportedOf reported.TooShort = reporting 39 0
 
-unfoldable pub reportRule : List ℕ → ℕ → Reporting
-reportRule s room = cond (ltb room (length (report s))) (reporting 39 0) (reporting 0 (length (report s)))
+-- a text written into so much room, and the bytes after it: a refusal writes nothing; past the text the bytes are kept
+unfoldable pub textRule : List ℕ → ℕ → Reporting
+textRule text room = cond (ltb room (length text)) (reporting 39 0) (reporting 0 (length text))
 
--- a refusal writes nothing; past the lines the bytes are kept
-unfoldable pub reportBytes : List ℕ → List ℕ → List ℕ
-reportBytes s out = cond (ltb (length out) (length (report s))) out (sets out 0 (report s))
+unfoldable pub textBytes : List ℕ → List ℕ → List ℕ
+textBytes text out = cond (ltb (length out) (length text)) out (sets out 0 text)
+
+-- a call that is to write a text into the bytes out: it answered a, by what it says of that, and left p
+pub record PutsAs {A : Type 0} (says : Reporting → A) (text out : List ℕ) (a : A) (p : List ℕ) : Type 0 where
+  pub answer : a ≡ says (textRule text (length out))
+  pub left : p ≡ textBytes text out
+
+-- it answered a itself
+abbrev pub Puts : List ℕ → List ℕ → Reporting → List ℕ → Type 0
+Puts text out a p = PutsAs (λ r. r) text out a p

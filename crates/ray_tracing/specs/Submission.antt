@@ -1,5 +1,6 @@
 -- "Submission", in the paper's order and words, over what is lent, as bytes and cells: an outcome tells each of them. Assumes nothing.
 use Prim.Native.Nat.{ℕ, zero, suc, _+_, _*_, _/_, _%_, _^_}
+use mathlib.Core.Path.{_≡_}
 use mathlib.Core.Bool.{Bool, true, false, _&&_, cond}
 use mathlib.Core.Option.{Option, none, some}
 use mathlib.Core.List.{List, [], _∷_}
@@ -9,14 +10,18 @@ use lib.Dec.{ltb, leb, eqb}
 use Rattle.wire.specs.Wire.{leBytes}
 use Rattle.ray_tracing.specs.declared.Blas.{Blas}
 use Rattle.ray_tracing.specs.declared.Tlas.{Tlas}
+use Rattle.ray_tracing.specs.declared.Submitted.{Submitted}
+use Rattle.ray_tracing.specs.declared.Submitted.the-variants as submitted
+use Rattle.ray_tracing.specs.declared.CommandIndices.{CommandIndices}
+use Rattle.ray_tracing.specs.declared.Validated.{Validated}
 use Rattle.ray_tracing.specs.Layout.{layout, size, placeOf, widthOf}
 use Rattle.ray_tracing.specs.Mentions.{blasMention, tlasMention, blasOf, tlasOf}
 use Rattle.ray_tracing.specs.Reading as reading
-use Rattle.ray_tracing.specs.Causes.{Cause, cause, bare}
+use Rattle.ray_tracing.specs.Causes.{Cause, cause, unbuiltInUse, bare, submissionCause}
 
-infixr 30 _or_
+infixr 30 _orElse_
 infix 20 _leaving_
-infixl 10 _then_
+infixl 10 _followedBy_
 -- ---- what is lent
 
 -- the counter, the Blases and Tlases as bytes, and for each Tlas the length of its list and the cells with room for it
@@ -31,6 +36,13 @@ pub record Lent : Type 0 where
 pub record Piece : Type 0 where
   pub actions : List ℕ
   pub lists : List ℕ
+
+-- as a call is lent them
+abbrev pub lentOf : ℕ → List ℕ → List ℕ → List ℕ → List ℕ → Lent
+lentOf n b t c d = record { counter = n; blases = b; tlases = t; dependencyCounts = c; dependencies = d }
+
+abbrev pub pieceOf : List ℕ → List ℕ → Piece
+pieceOf actions lists = record { actions = actions; lists = lists }
 
 -- "a Build lists at most 64 Blases and 32 Tlases, and a Tlas at most 512 Blases"
 abbrev pub mostBlases : ℕ
@@ -76,19 +88,19 @@ dependenciesOf l t = listIn (l .dependencyCounts) (l .dependencies) t
 
 -- ---- the first cause
 
-abbrev pub on : Bool → Cause → Option Cause
-on true c = some c
-on false c = none
+abbrev pub causeWhen : Bool → Cause → Option Cause
+causeWhen true c = some c
+causeWhen false c = none
 
 -- the first of two
-abbrev pub _or_ : Option Cause → Option Cause → Option Cause
-_or_ none d = d
-_or_ (some c) d = some c
+abbrev pub _orElse_ : Option Cause → Option Cause → Option Cause
+_orElse_ none d = d
+_orElse_ (some c) d = some c
 
 -- the first over a list, in its order
 abbrev pub first : {A : Type 0} → (A → Option Cause) → List A → Option Cause
 first f [] = none
-first f (x ∷ xs) = f x or first f xs
+first f (x ∷ xs) = f x orElse first f xs
 
 -- "id outside its table": each mention of a Blas and of a Tlas, wherever it stands, is judged by its sort's one rule; 0 is nothing
 abbrev pub mentioned : ℕ → Option Cause
@@ -117,21 +129,21 @@ judgeTlases l = tableCause (reading.judgeLent 4 (layout 4) (size 3) [] (l .tlase
 -- "39 unless each Tlas's plant list has room for 512"
 abbrev pub judgeRoom : Lent → Option Cause
 judgeRoom l =
-    on (ltb (length (l .dependencyCounts)) (tlasCount l)) (bare 39)
-    or on (ltb (length (l .dependencies)) (tlasCount l * mostDependencies)) (bare 39)
+    causeWhen (ltb (length (l .dependencyCounts)) (tlasCount l)) (bare 39)
+    orElse causeWhen (ltb (length (l .dependencies)) (tlasCount l * mostDependencies)) (bare 39)
 
 -- "then starting plant lists by Tlas, 4 above 512 Blases, 6 outside the table": 4 goes by the count itself
 abbrev pub judgeList : Lent → ℕ → Option Cause
 judgeList l t =
-    on (ltb mostDependencies (getD (l .dependencyCounts) t 0)) (bare 4) or first (mentionBlas l) (dependenciesOf l t)
+    causeWhen (ltb mostDependencies (getD (l .dependencyCounts) t 0)) (bare 4) orElse first (mentionBlas l) (dependenciesOf l t)
 
 -- the lists of n Tlases from t on
 unfoldable pub judgeLists : Lent → ℕ → ℕ → Option Cause
 judgeLists l t zero = none
-judgeLists l t (suc n) = judgeList l t or judgeLists l (t + 1) n
+judgeLists l t (suc n) = judgeList l t orElse judgeLists l (t + 1) n
 
 unfoldable pub judge : Lent → Option Cause
-judge l = judgeBlases l or judgeTlases l or judgeRoom l or judgeLists l 0 (tlasCount l)
+judge l = judgeBlases l orElse judgeTlases l orElse judgeRoom l orElse judgeLists l 0 (tlasCount l)
 
 -- ---- actions
 
@@ -153,8 +165,8 @@ abbrev pub markTlas : ℕ → Action
 markTlas t = build [] (record { tlas = t; dependencies = [] } ∷ [])
 
 -- the list of one Tlas, from a cell on: its id, its dependency count, its dependencies
-abbrev pub packageAt : List ℕ → ℕ → Package
-packageAt lists at =
+abbrev pub packageFrom : List ℕ → ℕ → Package
+packageFrom lists at =
     record { tlas = getD lists at 0; dependencies = take (getD lists (at + 1) 0) (drop (at + 2) lists) }
 
 abbrev pub pastPackage : List ℕ → ℕ → ℕ
@@ -163,7 +175,7 @@ pastPackage lists at = at + 2 + getD lists (at + 1) 0
 -- the lists of n Tlases
 unfoldable pub packagesAt : List ℕ → ℕ → ℕ → List Package
 packagesAt lists at zero = []
-packagesAt lists at (suc n) = packageAt lists at ∷ packagesAt lists (pastPackage lists at) n
+packagesAt lists at (suc n) = packageFrom lists at ∷ packagesAt lists (pastPackage lists at) n
 
 -- none of them runs past what is lent
 unfoldable pub packagesLent : List ℕ → ℕ → ℕ → Bool
@@ -224,9 +236,9 @@ answerNumbers accepted = record { number = 0; action = 0; first = 0; second = 0 
 answerNumbers (refused i c) = record { number = c .number; action = i; first = c .first; second = c .second }
 
 -- an outcome, and if it is accepted, what follows on what it left
-abbrev pub _then_ : Outcome → (Lent → Outcome) → Outcome
-_then_ (accepted leaving l) f = f l
-_then_ (refused i c leaving l) f = refused i c leaving l
+abbrev pub _followedBy_ : Outcome → (Lent → Outcome) → Outcome
+_followedBy_ (accepted leaving l) f = f l
+_followedBy_ (refused i c leaving l) f = refused i c leaving l
 
 -- actions counted through, after n others
 abbrev pub later : ℕ → Outcome → Outcome
@@ -234,26 +246,26 @@ later n (accepted leaving l) = accepted leaving l
 later n (refused i c leaving l) = refused (n + i) c leaving l
 
 -- "A refusal leaves all as it was"
-abbrev pub unless : Option Cause → Lent → Outcome → Outcome
-unless none l o = o
-unless (some c) l o = refused 0 c leaving l
+abbrev pub unlessCause : Option Cause → Lent → Outcome → Outcome
+unlessCause none l o = o
+unlessCause (some c) l o = refused 0 c leaving l
 
 -- ---- "Before an action acts"
 
 -- 4, over the whole action
 abbrev pub tooMany : List ℕ → List Package → Option Cause
 tooMany bs ps =
-    on (ltb mostBlases (length bs)) (bare 4)
-    or on (ltb mostTlases (length ps)) (bare 4)
-    or first (λ p. on (ltb mostDependencies (length (p .dependencies))) (bare 4)) ps
+    causeWhen (ltb mostBlases (length bs)) (bare 4)
+    orElse causeWhen (ltb mostTlases (length ps)) (bare 4)
+    orElse first (λ p. causeWhen (ltb mostDependencies (length (p .dependencies))) (bare 4)) ps
 
 -- "each Tlas and its plants"
 abbrev pub mentionPackage : Lent → Package → Option Cause
-mentionPackage l p = mentionTlas l (p .tlas) or first (mentionBlas l) (p .dependencies)
+mentionPackage l p = mentionTlas l (p .tlas) orElse first (mentionBlas l) (p .dependencies)
 
 -- 41, "Blas to build is compacted": action, Blas
 abbrev pub compacted : Lent → ℕ → Option Cause
-compacted l b = on (eqb (blas l b .«compacted_state») 3) (cause 41 b 0 0)
+compacted l b = causeWhen (eqb (blas l b .«compacted_state») 3) (cause 41 b 0 0)
 
 -- "5 (no such kind, or a list of its own past what is lent), 4, 6 (Blases, then each Tlas and its plants), and for a Build 40, then 41"
 unfoldable pub before : Lent → Action → Option Cause
@@ -261,10 +273,10 @@ before l malformed = some (bare 5)
 before l (useTlas t) = mentionTlas l t
 before l (build bs ps) =
     tooMany bs ps
-    or first (mentionBlas l) bs
-    or first (mentionPackage l) ps
-    or on (eqb (l .counter) 0) (bare 40)
-    or first (compacted l) bs
+    orElse first (mentionBlas l) bs
+    orElse first (mentionPackage l) ps
+    orElse causeWhen (eqb (l .counter) 0) (bare 40)
+    orElse first (compacted l) bs
 
 -- ---- "A Build"
 
@@ -307,39 +319,98 @@ buildTlas n p l =
 
 -- "42 on the first listed Blas without number", which gives Blas, Tlas
 abbrev pub unnumbered : Lent → ℕ → ℕ → Option Cause
-unnumbered l t b = on (eqb (blas l b .«built_index») 0) (cause 42 b t 0)
+unnumbered l t b = causeWhen (eqb (blas l b .«built_index») 0) (cause 42 b t 0)
 
 -- "then each Tlas in turn: 42 on the first listed Blas without number, else number and plant list"
 unfoldable pub buildTlases : ℕ → List Package → Lent → Outcome
 buildTlases n [] l = accepted leaving l
 buildTlases n (p ∷ ps) l =
-    unless (first (unnumbered l (p .tlas)) (p .dependencies)) l (buildTlases n ps (buildTlas n p l))
+    unlessCause (first (unnumbered l (p .tlas)) (p .dependencies)) l (buildTlases n ps (buildTlas n p l))
 
 -- ---- "A use: 43, then per listed Blas 42, 44, 21"
 
 -- 42 gives Tlas, Blas; 44 Blas, Tlas; 21 Blas
 abbrev pub unusableBlas : Lent → ℕ → ℕ → Option Cause
 unusableBlas l t b =
-    on (eqb (blas l b .«built_index») 0) (cause 42 t b 0)
-    or on (ltb (tlas l t .«built_index») (blas l b .«built_index»)) (cause 44 b t 0)
-    or on (eqb (blas l b .destroyed) 1) (cause 21 b 0 0)
+    causeWhen (eqb (blas l b .«built_index») 0) (unbuiltInUse t b)
+    orElse causeWhen (ltb (tlas l t .«built_index») (blas l b .«built_index»)) (cause 44 b t 0)
+    orElse causeWhen (eqb (blas l b .destroyed) 1) (cause 21 b 0 0)
 
 abbrev pub unusable : Lent → ℕ → Option Cause
-unusable l t = on (eqb (tlas l t .«built_index») 0) (cause 43 t 0 0) or first (unusableBlas l t) (dependenciesOf l t)
+unusable l t = causeWhen (eqb (tlas l t .«built_index») 0) (cause 43 t 0 0) orElse first (unusableBlas l t) (dependenciesOf l t)
 
 -- ---- a submission
 
 unfoldable pub act : Lent → Action → Outcome
 act l (build bs ps) = buildTlases (l .counter) ps (buildBlases bs l)
-act l (useTlas t) = unless (unusable l t) l (accepted leaving l)
+act l (useTlas t) = unlessCause (unusable l t) l (accepted leaving l)
 act l malformed = accepted leaving l
 
 unfoldable pub step : Lent → Action → Outcome
-step l a = unless (before l a) l (act l a)
+step l a = unlessCause (before l a) l (act l a)
 
 unfoldable pub run : Lent → List Action → Outcome
 run l [] = accepted leaving l
-run l (a ∷ more) = step l a then λ r. later 1 (run r more)
+run l (a ∷ more) = step l a followedBy λ r. later 1 (run r more)
 
 unfoldable pub submission : Lent → List Action → Outcome
-submission l actions = unless (judge l) l (run l actions)
+submission l actions = unlessCause (judge l) l (run l actions)
+
+-- ---- a call
+
+-- the four lent buffers that it may change
+pub record Buffers : Type 0 where
+  pub blases : List ℕ
+  pub tlases : List ℕ
+  pub dependencyCounts : List ℕ
+  pub dependencies : List ℕ
+
+abbrev pub buffersOf : List ℕ → List ℕ → List ℕ → List ℕ → Buffers
+buffersOf b t c d = record { blases = b; tlases = t; dependencyCounts = c; dependencies = d }
+
+abbrev pub lentWith : ℕ → Buffers → Lent
+lentWith n x = lentOf n (x .blases) (x .tlases) (x .dependencyCounts) (x .dependencies)
+
+-- what the answer of `submit` says, and the counter in it
+abbrev pub answerOf : Submitted → Answer
+answerOf (submitted.Accepted n) = accepted
+answerOf (submitted.Refused e i n) = refused i (submissionCause e)
+
+abbrev pub counterOf : Submitted → ℕ
+counterOf (submitted.Accepted n) = n
+counterOf (submitted.Refused e i n) = n
+
+-- with what is left
+abbrev pub outcomeOf : Submitted → List ℕ → List ℕ → List ℕ → List ℕ → Outcome
+outcomeOf s b t c d = answerOf s leaving lentOf (counterOf s) b t c d
+
+-- a call of `submit`: lent the counter n, the buffers x and the piece p, it answered r and left y
+abbrev pub Submits : ℕ → Buffers → Piece → Submitted → Buffers → Type 0
+Submits n x p r y =
+    outcomeOf r (y .blases) (y .tlases) (y .dependencyCounts) (y .dependencies) ≡ submission (lentWith n x) (decode p)
+
+-- what a caller sees who is told numbers: these, the counter, and the buffers
+pub record Shown : Type 0 where
+  pub numbers : Numbers
+  pub counter : ℕ
+  pub left : Buffers
+
+abbrev pub shown : Outcome → Shown
+shown (a leaving l) =
+    record {
+      numbers = answerNumbers a;
+      counter = l .counter;
+      left = buffersOf (l .blases) (l .tlases) (l .dependencyCounts) (l .dependencies);
+    }
+
+-- the numbers that `validate_acceleration_structure_actions` answers
+abbrev pub numbersOf : Validated → Numbers
+numbersOf v = record { number = v .number; action = v .action; first = v .first; second = v .second }
+
+-- "`CommandIndices` is lent by `&mut` and its counter stepped there; `active_submission_index` never moves": a call with the indices i before
+-- it and j after it
+pub record Validates (i : CommandIndices) (x : Buffers) (p : Piece) (v : Validated) (j : CommandIndices) (y : Buffers) : Type 0 where
+  pub shows :
+      record { numbers = numbersOf v; counter = j .«next_acceleration_structure_build_command_index»; left = y }
+      ≡ shown (submission (lentWith (i .«next_acceleration_structure_build_command_index») x) (decode p))
+  pub unmoved : j .«active_submission_index» ≡ i .«active_submission_index»

@@ -12,7 +12,7 @@ use Rattle.ray_tracing.specs.declared.BlasGeometry.{BlasGeometry}
 use Rattle.ray_tracing.specs.declared.BlasGeometrySizeDescriptor.{BlasGeometrySizeDescriptor}
 use Rattle.ray_tracing.specs.Causes.{Cause, cause, bare}
 use Rattle.ray_tracing.specs.Guard.{refuse, neb}
-use Rattle.ray_tracing.specs.Checks.{Checked, asks, refused, _then_, range, limit32, usable}
+use Rattle.ray_tracing.specs.Checks.{Checked, asks, refused, _then_, range, limit32, usableBuffer}
 
 -- 12 flags differ; 13 vertex count above declared, 14 format differs; 15 stride below least, 16 not a multiple
 abbrev pub descriptorRule : BlasGeometrySizeDescriptor → BlasGeometry → Checked
@@ -36,7 +36,7 @@ indexSizesRule d g has-buffer =
 -- "data buffer 21, 22, 23 (first vertex plus count, times stride, above its size)"; 23 gives offset, region, size
 abbrev pub verticesRule : BlasGeometry → Buffer → Checked
 verticesRule g b =
-    usable (g .buffer .0) b
+    usableBuffer (g .buffer .0) b
     (refuse
     (ltb (b .size) ((g .first + g .count) * g .stride))
     (refused (cause 23 (stopped (g .first * g .stride)) (stopped (g .count * g .stride)) (b .size)))
@@ -62,7 +62,7 @@ abbrev pub indicesRule : BlasGeometry → ℕ → Buffer → Checked
 indicesRule g width b =
     refuse (eqb (g .«first_index_present») 0) (refused (bare 24))
     (refuse (eqb (g .«index_count_present») 0) (refused (bare 24))
-    (usable (g .«index_buffer» .0) b
+    (usableBuffer (g .«index_buffer» .0) b
     (refuse (eqb (g .«index_format») 0) (refused (bare 25)) (indexRegionRule g width b))))
 
 -- "28, 24, 21, 22, 26, 29, 23 (48 bytes)"; 26 gives "transform: offset, offset, 1"
@@ -70,7 +70,7 @@ abbrev pub transformRule : ℕ → BlasGeometry → Buffer → Checked
 transformRule flags g b =
     refuse (eqb (flags % 2) 0) (refused (bare 28))
     (refuse (eqb (g .«transform_buffer_offset_present») 0) (refused (bare 24))
-    (usable (g .«transform_buffer» .0) b
+    (usableBuffer (g .«transform_buffer» .0) b
     (refuse
     (ltb limit32 (g .«transform_buffer_offset»))
     (refused (cause 26 (g .«transform_buffer_offset») (g .«transform_buffer_offset») 1))
@@ -81,8 +81,8 @@ transformRule flags g b =
     (asks (range (g .«transform_buffer» .0) (g .«transform_buffer_offset») 48)))))))
 
 -- "Only index and transform buffers may be 65535, none": the buffer of an id, if it is one
-abbrev pub lent : (ℕ → Buffer) → ℕ → Option Buffer
-lent buffer id = cond (eqb id 65535) none (some (buffer id))
+abbrev pub unlessNone : (ℕ → Buffer) → ℕ → Option Buffer
+unlessNone buffer id = cond (eqb id 65535) none (some (buffer id))
 
 abbrev pub isLent : Option Buffer → Bool
 isLent none = false

@@ -1,4 +1,5 @@
--- The tables of a sheet, and the sheet of nine tables. Assumes nothing.
+-- Internal: the sheet of nine tables, and what is read of it. The laws about reading cite these, no entry point's contract does. Assumes
+-- nothing.
 use Prim.Native.Nat.{ℕ, zero, suc, _+_, _-_, _/_}
 use mathlib.Core.List.{List, [], _∷_, _++_}
 use lib.ListN.{length, take, drop}
@@ -8,25 +9,6 @@ use Rattle.ray_tracing.specs.declared.Sheet.{Sheet}
 use Rattle.ray_tracing.specs.Layout.{size}
 use Rattle.ray_tracing.specs.Reading.{past, from}
 use Rattle.ray_tracing.specs.Plan.{Tables}
-
--- the records of section k
-abbrev pub table : List ℕ → ℕ → List ℕ
-table s k = take (past s k - from s k) (drop (from s k) s)
-
--- what a build is lent of nine tables
-abbrev pub tablesOf : ℕ → (ℕ → List ℕ) → Tables
-tablesOf alignment tables =
-    record {
-      alignment = alignment;
-      buffers = tables 1;
-      blases = tables 2;
-      declared = tables 3;
-      tlases = tables 4;
-      entries = tables 5;
-      geometries = tables 6;
-      packages = tables 7;
-      slots = tables 8;
-    }
 
 -- how many records a table has
 abbrev pub countOf : (ℕ → List ℕ) → ℕ → ℕ

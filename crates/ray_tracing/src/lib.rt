@@ -1,6 +1,35 @@
 // Ids, the records of lent tables by value, and what the entry points answer. The paper as definitions stands in specs/.
 ghost use mathlib.Core.Path.{_≡_};
 ghost use mathlib.Core.Bool.{_&&_, _||_, cond};
+ghost use Rattle.ray_tracing.specs.Plan.{_or_};
+ghost use Rattle.ray_tracing.specs.Code.{verdictOf};
+
+// The bytes of a record of each section, and of an instance.
+pub const BUFFER_SIZE: usize = 9;
+
+pub const BLAS_SIZE: usize = 28;
+
+pub const DECLARED_SIZE: usize = 18;
+
+pub const TLAS_SIZE: usize = 22;
+
+pub const ENTRY_SIZE: usize = 5;
+
+pub const GEOMETRY_SIZE: usize = 44;
+
+pub const PACKAGE_SIZE: usize = 4;
+
+pub const SLOT_SIZE: usize = 56;
+
+pub const ACTION_SIZE: usize = 3;
+
+pub const INSTANCE_SIZE: usize = 64;
+
+// An index or a transform buffer that is none.
+pub const NO_BUFFER: u16 = 65535;
+
+// The cells of each Tlas's list.
+pub const TLAS_ROOM: usize = 512;
 
 pub struct BufferId(pub u16);
 
@@ -275,10 +304,96 @@ pub enum Submitted {
     Refused(ValidateAsActionsError, usize, u64),
 }
 
+// The counter of Builds steps where it lies; the submission index never moves.
+#[repr(C)]
+pub struct CommandIndices {
+    pub active_submission_index: u64,
+    pub next_acceleration_structure_build_command_index: u64,
+}
+
+// What a submission came to, by the paper's numbers: number, action and two figures, 0 where it was accepted.
+#[repr(C)]
+pub struct Validated {
+    pub number: u64,
+    pub action: u64,
+    pub first: u64,
+    pub second: u64,
+}
+
 // What writing a sheet's lines comes to: so many bytes written, or too few were lent.
 pub enum Reported {
     Written(usize),
     TooShort,
+}
+
+// What the exported functions answer, as C structs of numbers, unused ones 0.
+
+// What reading a sheet came to: number and place, or version, alignment, counter, and start and count of sections 1 to 9.
+#[repr(C)]
+pub struct SheetAnswer {
+    pub number: u64,
+    pub place: u64,
+    pub version: u64,
+    pub alignment: u64,
+    pub counter: u64,
+    pub buffers_start: u64,
+    pub buffers_count: u64,
+    pub blases_start: u64,
+    pub blases_count: u64,
+    pub declared_start: u64,
+    pub declared_count: u64,
+    pub tlases_start: u64,
+    pub tlases_count: u64,
+    pub entries_start: u64,
+    pub entries_count: u64,
+    pub geometries_start: u64,
+    pub geometries_count: u64,
+    pub packages_start: u64,
+    pub packages_count: u64,
+    pub slots_start: u64,
+    pub slots_count: u64,
+    pub actions_start: u64,
+    pub actions_count: u64,
+}
+
+// What a build came to: number, E and figures, or whether it is recorded, its scratch size and how many elements of each output
+// were written.
+#[repr(C)]
+pub struct BuildAnswer {
+    pub number: u64,
+    pub e0: u64,
+    pub e1: u64,
+    pub f0: u64,
+    pub f1: u64,
+    pub f2: u64,
+    pub recorded: u64,
+    pub scratch_size: u64,
+    pub blas_offsets: u64,
+    pub tlas_offsets: u64,
+    pub staging_ranges: u64,
+    pub instances: u64,
+    pub init_ranges: u64,
+    pub compactable: u64,
+    pub lists: u64,
+}
+
+// What appending an instance came to: number, E and figures; and how many bytes are in use.
+#[repr(C)]
+pub struct AppendAnswer {
+    pub number: u64,
+    pub e0: u64,
+    pub e1: u64,
+    pub f0: u64,
+    pub f1: u64,
+    pub f2: u64,
+    pub used: u64,
+}
+
+// What writing a text came to: 0 or 39, and how many bytes were written.
+#[repr(C)]
+pub struct ReportAnswer {
+    pub number: u64,
+    pub written: u64,
 }
 
 pub fn both(a: bool, b: bool) -> bool
@@ -291,6 +406,16 @@ pub fn either(a: bool, b: bool) -> bool
     ensures { λ r. ⌜ r ≡ (a || b) ⌝ }
 {
     if a { true } else { b }
+}
+
+// The first of two verdicts that refuses.
+pub fn first(a: Verdict, b: Verdict) -> Verdict
+    ensures { λ r. ⌜ verdictOf r ≡ (verdictOf a or verdictOf b) ⌝ }
+{
+    match a {
+        Verdict::Passed => b,
+        Verdict::Refused(_, _, _) => a,
+    }
 }
 
 pub fn pick(b: bool, x: usize, y: usize) -> usize

@@ -19,7 +19,8 @@ ghost use Prim.Native.Nat.{_+_, _*_, _/_, _≤_, _<_};
 ghost use lib.ListN.{length};
 ghost use Rattle.ray_tracing.specs.Layout.{size};
 ghost use Rattle.ray_tracing.specs.Records.{bufferAt, blasAt, declaredAt, tlasAt, entryAt, geometryAt, packageAt};
-ghost use Rattle.ray_tracing.specs.Mentions.{mentionOf, bufferMention, blasMention, tlasMention, blasOf, tlasOf};
+ghost use Rattle.ray_tracing.specs.Mentions.{bufferMention, blasMention, tlasMention, blasOf, tlasOf};
+ghost use Rattle.ray_tracing.specs.Code.{mentionOf};
 
 // A mention of an id, which is a number until it is judged here: one function for each sort.
 pub fn buffer_mention(table: &[u8], id: usize) -> Mentioned

@@ -9,15 +9,16 @@ use lib.ListN.{length, take, drop, getD}
 use lib.Seq.{sets, sets-eq, take-at}
 use Rattle.ray_tracing.specs.declared.Written.{Written}
 use Rattle.ray_tracing.specs.Layout.{size}
-use Rattle.ray_tracing.specs.Plan.{Tables, Outputs, Answer, recorded, nothing-recorded, not-built, recordsIn, planOf, build, leaves, blasScratch, tlasScratch}
-use Rattle.ray_tracing.specs.Report.{actionCells, positions, outcomeOf, outcomeLines, blasLines, tlasLines, submitLines, answerLines}
+use Rattle.ray_tracing.specs.Plan.{Tables, Outputs, Building, recorded, nothing-recorded, not-built, recordsIn, planOf, build, leaves, blasScratch, tlasScratch}
+use Rattle.ray_tracing.specs.Report.{actionCells, positions, sheetOutcome, outcomeLines, blasLines, tlasLines, submitLines, answerLines}
 use Rattle.ray_tracing.specs.Explain.{outcomeRefusal, submitRefusal, answerRefusal}
 use Rattle.ray_tracing.proofs.Inside.{Inside}
 use Rattle.ray_tracing.proofs.Plan.{offsets-length, staging-length}
 use Rattle.ray_tracing.proofs.PlanLaws.{judged, facts}
 use Rattle.wire.proofs.Laws.{sets-within}
-use Rattle.submit_lines.specs.Parts.{listing, submissionOutcome, submissionLines}
-use Rattle.submit_lines.specs.Refused.{submissionRefusal}
+use Rattle.report_submit.specs.Parts.{submissionOutcome, submissionLines}
+use Rattle.ray_tracing.specs.Parts.{listing}
+use Rattle.report_submit.specs.Refused.{submissionRefusal}
 use Rattle.report.specs.Parts.{blasLinesOf, tlasLinesOf, answerLinesOf, answerRefusalOf, tableLines, tableRefusal}
 use Rattle.report.proofs.Room.{Roomy, build-with-room, lists-room}
 
@@ -60,7 +61,7 @@ cells-are x r a i zero = refl
 cells-are x r a i (suc n) = rw (cells-are x r a (i + 1) n)
 
 module _ (counter : ℕ) (x : Tables) (r : Bool) (a l : List ℕ) (e : l ≡ cond r (planOf x .lists) []) where
-  outcome-is : submissionOutcome counter (x .blases) (x .tlases) (x .entries) (x .packages) r a l ≡ outcomeOf counter x r a
+  outcome-is : submissionOutcome counter (x .blases) (x .tlases) (x .entries) (x .packages) r a l ≡ sheetOutcome counter x r a
   unfolding submissionOutcome
   outcome-is = rw (e, cells-are x r a 0 (length a / size 9))
 
@@ -128,7 +129,7 @@ module _ (counter : ℕ) (x : Tables) (o : Outputs) (a : List ℕ) (room : Roomy
     lists-are = rw lists-count (written-all (o .lists) (planOf x .lists) (lists-room x i o room))
 
   -- with what it left of the outputs
-  abbrev linesAfter : Answer → List ℕ
+  abbrev linesAfter : Building → List ℕ
   linesAfter v =
       answerLinesOf counter (x .blases) (x .tlases) (x .entries) (x .packages) a
       (leaves v (planOf x) o .«blas_offsets»)
@@ -137,7 +138,7 @@ module _ (counter : ℕ) (x : Tables) (o : Outputs) (a : List ℕ) (room : Roomy
       (leaves v (planOf x) o .lists)
       v
 
-  lines-are : (v : Answer) → build x o ≡ v → linesAfter v ≡ answerLines counter x a v
+  lines-are : (v : Building) → build x o ≡ v → linesAfter v ≡ answerLines counter x a v
   lines-are (not-built e f c) h = refl
   lines-are (nothing-recorded n) h = rw (submit-lines-are counter x false a [] refl)
   lines-are (recorded n w) h =
@@ -149,7 +150,7 @@ module _ (counter : ℕ) (x : Tables) (o : Outputs) (a : List ℕ) (room : Roomy
       (simp append-assoc)
 
   refusal-is :
-      (v : Answer)
+      (v : Building)
       → build x o ≡ v
       → answerRefusalOf counter (x .blases) (x .tlases) (x .entries) (x .packages) a (leaves v (planOf x) o .lists) v
       ≡ answerRefusal counter x a v
@@ -160,7 +161,7 @@ module _ (counter : ℕ) (x : Tables) (o : Outputs) (a : List ℕ) (room : Roomy
 
   -- the code's answer v, and the outputs q that it left
   pub built-lines :
-      {v : Answer} {q : Outputs}
+      {v : Building} {q : Outputs}
       → v ≡ build x o
       → q ≡ leaves (build x o) (planOf x) o
       → answerLinesOf counter (x .blases) (x .tlases) (x .entries) (x .packages) a (q .«blas_offsets») (q .«tlas_offsets») (q .«staging_ranges») (q .lists) v
@@ -169,7 +170,7 @@ module _ (counter : ℕ) (x : Tables) (o : Outputs) (a : List ℕ) (room : Roomy
   built-lines e f = rw (e, f, ← build-with-room x o room) (lines-are (build x o) refl)
 
   pub built-refusal :
-      {v : Answer} {q : Outputs}
+      {v : Building} {q : Outputs}
       → v ≡ build x o
       → q ≡ leaves (build x o) (planOf x) o
       → answerRefusalOf counter (x .blases) (x .tlases) (x .entries) (x .packages) a (q .lists) v ≡ tableRefusal counter x a

@@ -10,7 +10,7 @@ use lib.Dec.{ltb}
 use lib.ListN.{length, getD, take, length-append}
 use Rattle.ray_tracing.specs.Records.{entryAt, packageAt}
 use Rattle.ray_tracing.specs.Report.{word-blas, word-tlas, reporting}
-use Rattle.text.proofs.Laws.{line-most}
+use Rattle.report_text.proofs.Laws.{line-most}
 use Rattle.ray_tracing.proofs.Plan.{left-more, left-none}
 use Rattle.report.specs.Parts.{blasLine, blasLinesOf, tlasLine, tlasLinesOf}
 

@@ -10,39 +10,14 @@ use lib.Seq.{take-all, take-take}
 use borrow.Author.Tests.{le-ltb}
 use Rattle.ray_tracing.specs.Layout.{layout, size}
 use Rattle.ray_tracing.specs.Causes.{Cause, bare}
-use Rattle.ray_tracing.specs.Reading.{Reading, accepted, rejected, readSheet, longest}
-use Rattle.ray_tracing.specs.Writing.{table, tablesOf}
-use Rattle.ray_tracing.specs.Plan.{Tables, Answer, recorded, nothing-recorded, not-built, recordsIn, entryOf, packageOf, planOf, build}
+use Rattle.ray_tracing.specs.Reading.{Reading, accepted, rejected, readSheet, table}
+use Rattle.ray_tracing.specs.Sizes.{longest, longestReport, longestLine}
+use Rattle.ray_tracing.specs.Plan.{sheetTables, Tables, Building, recorded, nothing-recorded, not-built, recordsIn, entryOf, packageOf, planOf, build}
 use Rattle.ray_tracing.specs.Submission as submission
-use Rattle.ray_tracing.specs.Report.{
-  line,
-  word-sheet,
-  word-build,
-  word-scratch,
-  word-blas,
-  word-tlas,
-  word-submit,
-  word-next,
-  blasLines,
-  tlasLines,
-  positions,
-  outcomeOf,
-  submitNumbers,
-  outcomeLines,
-  submitLines,
-  buildLine,
-  answerLines,
-  builtLines,
-  readingLines,
-  report,
-  longestLine,
-  longestReport,
-  reporting,
-  reportRule,
-}
+use Rattle.ray_tracing.specs.Report.{line, word-sheet, word-build, word-scratch, word-blas, word-tlas, word-submit, word-next, blasLines, tlasLines, positions, sheetOutcome, submitNumbers, outcomeLines, submitLines, buildLine, answerLines, builtLines, readingLines, report, reporting, reportRule}
 use Rattle.ray_tracing.proofs.Sheets.{lent-tells, accepted-lent}
 use Rattle.ray_tracing.proofs.Longest.{prefix-decides, accepted-longest}
-use Rattle.text.proofs.Laws.{line-most}
+use Rattle.report_text.proofs.Laws.{line-most}
 
 pub longest-report-is : longestReport ≡ 6134
 longest-report-is = refl
@@ -97,13 +72,13 @@ submit-most :
     (counter : ℕ) (x : Tables) (r : Bool) (a : List ℕ)
     → length (submitLines counter x r a) ≤ longestLine word-submit 4 + longestLine word-next 1
 unfolding submitLines
-submit-most counter x r a = outcome-most (positions r a 0 (length a / size 9)) (outcomeOf counter x r a)
+submit-most counter x r a = outcome-most (positions r a 0 (length a / size 9)) (sheetOutcome counter x r a)
 
 pub build-most : (e f : ℕ) (c : Cause) → length (buildLine e f c) ≤ longestLine word-build 6
 build-most e f c = line-most word-build (c .number ∷ e ∷ f ∷ c .first ∷ c .second ∷ c .third ∷ [])
 
 answer-most :
-    (counter : ℕ) (x : Tables) (a : List ℕ) (b : Answer)
+    (counter : ℕ) (x : Tables) (a : List ℕ) (b : Building)
     → recordsIn x 5 ≤ layout 5 .most
     → recordsIn x 7 ≤ layout 7 .most
     → length (answerLines counter x a b) ≤ longestReport
@@ -125,7 +100,7 @@ reading-most : (s : List ℕ) (r : Reading) → readSheet s ≡ r → length (re
 unfolding builtLines
 reading-most s (rejected n p) e = omega (arith, line-most word-sheet (n ∷ p ∷ []))
 reading-most s (accepted x) e =
-    let t = tablesOf (x .alignment) (table s) in
+    let t = sheetTables (x .alignment) (table s) in
     answer-most (x .counter) t (table s 9) (build t (planOf t))
     (lent-tells _ _ _ _ _ (accepted-lent s x e 4 (lit< tt)) .few)
     (lent-tells _ _ _ _ _ (accepted-lent s x e 6 (lit< tt)) .few)

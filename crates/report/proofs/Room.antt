@@ -15,8 +15,8 @@ use Rattle.ray_tracing.specs.declared.BlasGeometry.{BlasGeometry}
 use Rattle.ray_tracing.specs.declared.BlasGeometrySizeDescriptor.{BlasGeometrySizeDescriptor}
 use Rattle.ray_tracing.specs.Guard.{refuse}
 use Rattle.ray_tracing.specs.Causes.{Cause, bare}
-use Rattle.ray_tracing.specs.Checks.{Checked, asks, refused, _then_, usable}
-use Rattle.ray_tracing.specs.Triangles.{lent, descriptorRule, indexSizesRule, verticesRule, indexWidth, indexRegionRule, indicesRule, transformRule, isLent, indexPart, transformPart, trianglesRule}
+use Rattle.ray_tracing.specs.Checks.{Checked, asks, refused, _then_, usableBuffer}
+use Rattle.ray_tracing.specs.Triangles.{unlessNone, descriptorRule, indexSizesRule, verticesRule, indexWidth, indexRegionRule, indicesRule, transformRule, isLent, indexPart, transformPart, trianglesRule}
 use Rattle.ray_tracing.specs.Boxes.{boxesRule}
 use Rattle.ray_tracing.specs.Mentions.{bufferOf}
 use Rattle.ray_tracing.specs.Instances.{presentOf}
@@ -25,7 +25,7 @@ use Rattle.ray_tracing.specs.Plan.{
   Tables,
   _or_,
   Outputs,
-  Answer,
+  Building,
   recordsIn,
   entryOf,
   geometryOf,
@@ -80,7 +80,7 @@ then-few m n (asks a) (asks b) h k = simp length-append (omega arith)
 then-few m n (asks a) (refused c) h k = omega arith
 then-few m n (refused c) d h k = omega arith
 
-usable-few : (n id : ℕ) (b : Buffer) (d : Checked) → Few n d → Few n (usable id b d)
+usable-few : (n id : ℕ) (b : Buffer) (d : Checked) → Few n d → Few n (usableBuffer id b d)
 usable-few n id b d h = refuse-few n _ _ _ (refuse-few n _ _ _ h)
 
 descriptor-few : (d : BlasGeometrySizeDescriptor) (g : BlasGeometry) → Few 0 (descriptorRule d g)
@@ -146,8 +146,8 @@ checked-few x i j g =
     let d = declaredOf x (entryOf x i .blas .0) j in
     let geometry = geometryOf x g in
     let b = bufferOf (x .buffers) (geometry .buffer .0) in
-    let index = lent (bufferOf (x .buffers)) (geometry .«index_buffer» .0) in
-    let transform = lent (bufferOf (x .buffers)) (geometry .«transform_buffer» .0) in
+    let index = unlessNone (bufferOf (x .buffers)) (geometry .«index_buffer» .0) in
+    let transform = unlessNone (bufferOf (x .buffers)) (geometry .«transform_buffer» .0) in
     cond-few 9 (eqb (entryOf x i .kind) 0) (trianglesRule blas d geometry b index transform) (boxesRule blas d geometry b)
     (triangles-few blas d geometry b index transform)
     (boxes-few blas d geometry b)
@@ -287,8 +287,8 @@ roomy =
       lists = room-of 640;
     }
 
-fits : (values lent : List ℕ) → length values ≤ length lent → short values lent ≡ false
-fits values lent h = le-ltb (length lent) (length values) h
+fits : (values unlessNone : List ℕ) → length values ≤ length unlessNone → short values unlessNone ≡ false
+fits values unlessNone h = le-ltb (length unlessNone) (length values) h
 
 module _ (x : Tables) (i : Inside x) (o : Outputs) (r : Roomy o) where
   ranges-fit : short (planOf x .«init_ranges») (o .«init_ranges») ≡ false
@@ -329,7 +329,7 @@ pub build-with-room : (x : Tables) (o : Outputs) → Roomy o → build x o ≡ b
 unfolding build
 build-with-room x o r = go (judgeTables x or judgeIds x or judgeEntries x or judgePackages x) refl
   where
-    after : plan.Verdict → Outputs → Answer
+    after : plan.Verdict → Outputs → Building
     after v o =
         plan.unless v
         (cond (eqb (scratchSize x) 0)

@@ -8,13 +8,12 @@ use lib.ListN.{length, take, drop}
 use Rattle.ray_tracing.specs.declared.Section.{Section}
 use Rattle.ray_tracing.specs.declared.Sheet.{Sheet}
 use Rattle.ray_tracing.specs.Layout.{layout, size}
-use Rattle.ray_tracing.specs.Reading.{sectionOf, sheetOf, accepted, readSheet}
-use Rattle.ray_tracing.specs.Writing.{table}
+use Rattle.ray_tracing.specs.Reading.{sectionOf, sheetOf, accepted, readSheet, table}
 use Rattle.ray_tracing.specs.Report.{builtLines}
 use Rattle.ray_tracing.specs.Explain.{builtRefusal}
-use Rattle.ray_tracing.proofs.Inside.{tablesOf}
+use Rattle.ray_tracing.specs.Plan.{tablesOf}
 use Rattle.ray_tracing.proofs.Sheets.{Lent, lent-tells, table-section, accepted-is, accepted-whole, accepted-lent}
-use Rattle.submit_lines.specs.Parts.{Lendable}
+use Rattle.report_submit.specs.Parts.{Lendable}
 use Rattle.report.specs.Parts.{tableLines, tableRefusal}
 
 module _ (s : List ℕ) (x : Sheet) (e : readSheet s ≡ accepted x) where

@@ -6,11 +6,12 @@ use lib.ListN.{take, getD}
 use Rattle.ray_tracing.specs.Layout.{size}
 use Rattle.ray_tracing.specs.Records.{entryAt, packageAt}
 use Rattle.ray_tracing.specs.Causes.{bare}
-use Rattle.ray_tracing.specs.Plan.{Tables, Outputs, Answer, recorded, nothing-recorded, not-built, planOf, build}
+use Rattle.ray_tracing.specs.Plan.{Tables, Outputs, Building, recorded, nothing-recorded, not-built, planOf, build}
 use Rattle.ray_tracing.specs.Report.{line, word-scratch, word-blas, word-tlas, buildLine, answerLines}
 use Rattle.ray_tracing.specs.Explain.{Refusal, of-build, answerRefusal}
-use Rattle.submit_lines.specs.Parts.{entriesIn, packagesIn, submissionLines}
-use Rattle.submit_lines.specs.Refused.{submissionRefusal}
+use Rattle.report_submit.specs.Parts.{submissionLines}
+use Rattle.ray_tracing.specs.Parts.{packagesIn, entriesIn}
+use Rattle.report_submit.specs.Refused.{submissionRefusal}
 
 -- `blasLines` with the entries as bytes and the offsets as cells
 abbrev pub blasLine : List ℕ → List ℕ → ℕ → List ℕ
@@ -40,7 +41,7 @@ planLines size entries packages blas-offsets tlas-offsets staging-ranges =
     ++ tlasLinesOf packages tlas-offsets staging-ranges 0 (packagesIn packages)))
 
 -- `answerLines` with what the build left of its outputs
-abbrev pub answerLinesOf : ℕ → List ℕ → List ℕ → List ℕ → List ℕ → List ℕ → List ℕ → List ℕ → List ℕ → List ℕ → Answer → List ℕ
+abbrev pub answerLinesOf : ℕ → List ℕ → List ℕ → List ℕ → List ℕ → List ℕ → List ℕ → List ℕ → List ℕ → List ℕ → Building → List ℕ
 answerLinesOf counter blases tlases entries packages actions blas-offsets tlas-offsets staging-ranges lists (not-built e f c) = buildLine e f c
 answerLinesOf counter blases tlases entries packages actions blas-offsets tlas-offsets staging-ranges lists (nothing-recorded n) =
     buildLine 0 0 (bare 0) ++ submissionLines counter blases tlases entries packages false actions []
@@ -49,7 +50,7 @@ answerLinesOf counter blases tlases entries packages actions blas-offsets tlas-o
     ++ submissionLines counter blases tlases entries packages true actions (take (w .lists) lists)
 
 -- `answerRefusal` with what the build left of its lists
-abbrev pub answerRefusalOf : ℕ → List ℕ → List ℕ → List ℕ → List ℕ → List ℕ → List ℕ → Answer → Refusal
+abbrev pub answerRefusalOf : ℕ → List ℕ → List ℕ → List ℕ → List ℕ → List ℕ → List ℕ → Building → Refusal
 answerRefusalOf counter blases tlases entries packages actions lists (not-built e f c) = of-build e f c
 answerRefusalOf counter blases tlases entries packages actions lists (nothing-recorded n) =
     submissionRefusal counter blases tlases entries packages false actions []

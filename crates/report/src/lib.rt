@@ -7,12 +7,12 @@ use ray_tracing::Reported;
 use ray_tracing::Section;
 use ray_tracing::Sheet;
 use ray_tracing::SheetRead;
+use report_submit::Printed;
+use report_submit::Refusal;
+use report_submit::put_submission;
+use report_text::put;
+use report_text::put_line;
 use sheet::read_sheet;
-use submit_lines::Printed;
-use submit_lines::Refusal;
-use submit_lines::put_submission;
-use text::put;
-use text::put_line;
 use wire::u16_at;
 ghost use mathlib.Core.Path.{_≡_};
 ghost use Prim.Native.Nat.{ℕ, _+_, _*_, _≤_, _<_};
@@ -20,14 +20,15 @@ ghost use lib.ListN.{length, take, drop};
 ghost use Rattle.ray_tracing.specs.declared.Written.{Written};
 ghost use Rattle.ray_tracing.specs.Causes.{cause};
 ghost use Rattle.ray_tracing.specs.Reading.{accepted, readSheet};
-ghost use Rattle.ray_tracing.specs.Plan.{answerOf, recorded};
+ghost use Rattle.ray_tracing.specs.Plan.{buildingOf, recorded, tablesOf};
 ghost use Rattle.ray_tracing.specs.Report as Report;
-ghost use Rattle.ray_tracing.specs.Report.{buildLine, builtLines, longestReport, reportedOf, reportRule, reportBytes};
+ghost use Rattle.ray_tracing.specs.Report.{buildLine, builtLines, reportedOf, reportRule, reportBytes};
+ghost use Rattle.ray_tracing.specs.Sizes.{longestReport};
 ghost use Rattle.ray_tracing.specs.Explain.{builtRefusal, refusalIn};
-ghost use Rattle.ray_tracing.proofs.Inside.{tablesOf};
-ghost use Rattle.text.specs.Put.{Put};
-ghost use Rattle.submit_lines.specs.Parts.{entriesIn, packagesIn, Lendable};
-ghost use Rattle.submit_lines.specs.Refused.{refusalOf};
+ghost use Rattle.report_text.specs.Put.{Put};
+ghost use Rattle.report_submit.specs.Parts.{Lendable};
+ghost use Rattle.ray_tracing.specs.Parts.{packagesIn, entriesIn};
+ghost use Rattle.report_submit.specs.Refused.{refusalOf};
 ghost use Rattle.report.specs.Parts.{blasLine, blasLinesOf, tlasLine, tlasLinesOf, planLines, answerLinesOf, answerRefusalOf, tableLines, tableRefusal};
 
 // The line of entry i.
@@ -150,9 +151,9 @@ fn put_answer(
 ) -> Printed
     requires { ⌜ Lendable (now blases) (now tlases) (now entries) (now packages) (now actions) × (6134 ≤ length (now out)) ⌝ }
     requires { ⌜ (64 ≤ length (now «blas_offsets»)) × ((32 ≤ length (now «tlas_offsets»)) × (64 ≤ length (now «staging_ranges»))) ⌝ }
-    requires { ⌜ ((n : ℕ) (w : Written) → answerOf built ≡ recorded n w → w .lists ≤ length (now lists)) ⌝ }
-    ensures { λ r. ⌜ Put (now (out .entry)) 0 (answerLinesOf counter (now (blases .entry)) (now (tlases .entry)) (now (entries .entry)) (now (packages .entry)) (now (actions .entry)) (now («blas_offsets» .entry)) (now («tlas_offsets» .entry)) (now («staging_ranges» .entry)) (now (lists .entry)) (answerOf built)) (r .end) (now (out .exit)) ⌝ }
-    ensures { λ r. ⌜ refusalOf (r .refusal) ≡ answerRefusalOf counter (now (blases .entry)) (now (tlases .entry)) (now (entries .entry)) (now (packages .entry)) (now (actions .entry)) (now (lists .entry)) (answerOf built) ⌝ }
+    requires { ⌜ ((n : ℕ) (w : Written) → buildingOf built ≡ recorded n w → w .lists ≤ length (now lists)) ⌝ }
+    ensures { λ r. ⌜ Put (now (out .entry)) 0 (answerLinesOf counter (now (blases .entry)) (now (tlases .entry)) (now (entries .entry)) (now (packages .entry)) (now (actions .entry)) (now («blas_offsets» .entry)) (now («tlas_offsets» .entry)) (now («staging_ranges» .entry)) (now (lists .entry)) (buildingOf built)) (r .end) (now (out .exit)) ⌝ }
+    ensures { λ r. ⌜ refusalOf (r .refusal) ≡ answerRefusalOf counter (now (blases .entry)) (now (tlases .entry)) (now (entries .entry)) (now (packages .entry)) (now (actions .entry)) (now (lists .entry)) (buildingOf built) ⌝ }
 {
     match built {
         Built::Refused(error, e, g) => {

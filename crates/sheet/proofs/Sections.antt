@@ -14,8 +14,8 @@ use Rattle.ray_tracing.specs.Reading.{
   Judged,
   fine,
   refused,
-  on,
-  _or_,
+  judgedWhen,
+  _andNext_,
   begin,
   past,
   from,
@@ -35,15 +35,15 @@ use Rattle.ray_tracing.proofs.Reading.{or-fine, on-fine, records-whole, section
 
 -- ---- the header
 
-or-assoc : (a b c : Judged) → ((a or b) or c) ≡ (a or b or c)
+or-assoc : (a b c : Judged) → ((a andNext b) andNext c) ≡ (a andNext b andNext c)
 or-assoc fine b c = refl
 or-assoc (refused n p) b c = refl
 
 module _ (s : List ℕ) where
   rest : Judged
-  rest = judgeSections s 0 9 or on (ltb (past s 9) (length s)) (refused 3 (past s 9))
+  rest = judgeSections s 0 9 andNext judgedWhen (ltb (past s 9) (length s)) (refused 3 (past s 9))
 
-  header-first : judgeSheet s ≡ (judgeHeader s or rest)
+  header-first : judgeSheet s ≡ (judgeHeader s andNext rest)
   unfolding judgeSheet rest
   header-first = simp or-assoc
 
@@ -52,14 +52,14 @@ module _ (s : List ℕ) where
   header-refused n q e = rw (header-first, e)
 
   module _ (e : judgeHeader s ≡ fine) where
-    pub header-fine : judgeSheet s ≡ (judgeSections s 0 9 or on (ltb (past s 9) (length s)) (refused 3 (past s 9)))
+    pub header-fine : judgeSheet s ≡ (judgeSections s 0 9 andNext judgedWhen (ltb (past s 9) (length s)) (refused 3 (past s 9)))
     unfolding rest
     header-fine = rw (header-first, e)
 
     pub header-there : 1 + size 0 ≤ length s
     header-there =
-        let x = or-fine (on (ltb (length s) 1) (refused 2 0)) _ e in
-        let y = or-fine (on (not (eqb (leAt 1 s 0) 1)) (refused 1 0)) _ (x .1) in
+        let x = or-fine (judgedWhen (ltb (length s) 1) (refused 2 0)) _ e in
+        let y = or-fine (judgedWhen (not (eqb (leAt 1 s 0) 1)) (refused 1 0)) _ (x .1) in
         records-whole (begin 0 [] false) (layout 0 .fields) s 1 1 (ltb-false (length s) 1 (on-fine _ 2 0 (x .0))) (y .1)
 
 -- what a count that is read tells, and one that is not
@@ -118,7 +118,7 @@ pub record Known (s start count : List ℕ) (a p k : ℕ) : Type 0 where
   pub ends : p ≡ past s k
   pub start-is : (j : ℕ) → j < k → getD start j 0 ≡ past s j + 2
   pub count-is : (j : ℕ) → j < k → getD count j 0 ≡ leAt 2 s (past s j)
-  pub judged : judgeSheet s ≡ (judgeSections s k (9 - k) or on (ltb (past s 9) (length s)) (refused 3 (past s 9)))
+  pub judged : judgeSheet s ≡ (judgeSections s k (9 - k) andNext judgedWhen (ltb (past s 9) (length s)) (refused 3 (past s 9)))
 
 module _ (s start count : List ℕ) (a p k : ℕ) (g : Known s start count a p k) where
   section-is : judgeSection s k a p ≡ judgeSection s k (from s k) (past s k)

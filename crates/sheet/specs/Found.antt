@@ -6,15 +6,15 @@ use lib.Dec.{eqb, ltb}
 use lib.ListN.{length, getD}
 use Rattle.wire.specs.Wire.{leAt}
 use Rattle.ray_tracing.specs.Layout.{layout}
-use Rattle.ray_tracing.specs.Reading.{Judged, refused, on, _or_, begin, judgeRecords}
+use Rattle.ray_tracing.specs.Reading.{Judged, refused, judgedWhen, _andNext_, begin, judgeRecords}
 use Rattle.ray_tracing.specs.declared.Section.{Section}
 use Rattle.ray_tracing.specs.declared.Sheet.{Sheet}
 
 abbrev pub judgeHeader : List ℕ → Judged
 judgeHeader s =
-    on (ltb (length s) 1) (refused 2 0)
-    or on (not (eqb (leAt 1 s 0) 1)) (refused 1 0)
-    or judgeRecords (begin 0 [] false) (layout 0 .fields) s 1 1
+    judgedWhen (ltb (length s) 1) (refused 2 0)
+    andNext judgedWhen (not (eqb (leAt 1 s 0) 1)) (refused 1 0)
+    andNext judgeRecords (begin 0 [] false) (layout 0 .fields) s 1 1
 
 abbrev pub sectionIn : List ℕ → List ℕ → ℕ → Section
 sectionIn start count k = record { start = getD start k 0; count = getD count k 0 }

@@ -1,13 +1,13 @@
 // The sheet's reader: the header, then section after section from the start on.
-use fields::judge_records;
-use layout::size_of;
 use ray_tracing::Judged;
 use ray_tracing::Section;
 use ray_tracing::Sheet;
 use ray_tracing::SheetError;
 use ray_tracing::SheetRead;
-pub use sections::judge_lent;
-use sections::judge_section;
+use sheet_fields::judge_records;
+use sheet_layout::size_of;
+pub use sheet_sections::judge_lent;
+use sheet_sections::judge_section;
 use wire::u8_at;
 use wire::u16_at;
 use wire::u32_at;
@@ -16,7 +16,8 @@ ghost use mathlib.Core.Path.{_≡_};
 ghost use Prim.Native.Nat.{_+_, _≤_, _<_};
 ghost use lib.ListN.{length};
 ghost use Rattle.ray_tracing.specs.Reading.{judgeSection, readSheet};
-ghost use Rattle.ray_tracing.specs.Causes.{judgedOf, readingOf};
+ghost use Rattle.ray_tracing.specs.Causes.{readingOf};
+ghost use Rattle.ray_tracing.specs.Code.{judgedOf};
 ghost use Rattle.sheet.specs.Count.{countAt};
 ghost use Rattle.sheet.specs.Found.{judgeHeader, sectionIn, sheetFrom};
 

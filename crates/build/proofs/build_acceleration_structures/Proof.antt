@@ -1,6 +1,5 @@
 -- `build::build_acceleration_structures` meets its contract: by what judging found.
-use Rattle.ray_tracing.proofs.Inside.{tablesOf}
-use Rattle.plan.specs.Planned.{outputsOf}
+use Rattle.ray_tracing.specs.Plan.{tablesOf, outputsOf}
 use Rattle.build.proofs.Judged.{refused-build, record-build, nothing-build, nothing-drawn, record-plannable}
 use borrow.Author.Needs.{needs}
 use Rattle.build.proofs.build_acceleration_structures.Statement.{statement}

@@ -1,7 +1,7 @@
 -- `build::record_nothing` meets its contract: by the room.
 use borrow.Author.Needs.{needs}
-use Rattle.init_ranges.specs.Entries.{entriesIn}
-use Rattle.init_ranges.specs.Ranges.{allRanges}
+use Rattle.ray_tracing.specs.Parts.{entriesIn}
+use Rattle.build_ranges.specs.Ranges.{allRanges}
 use mathlib.Core.Path.{refl}
 use native.Mathlib.Omega.{arith}
 use Rattle.build.proofs.Room.{nothing-short, nothing-fits}

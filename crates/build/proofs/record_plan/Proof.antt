@@ -1,7 +1,8 @@
 -- `build::record_plan` meets its contract: by the room; the counts are those of what would be written.
 use mathlib.Core.Path.{refl, _∙_}
-use Rattle.plan.specs.Planned.{planned, outputsOf}
-use Rattle.plan.proofs.Lengths.{counts-any}
+use Rattle.build_plan.specs.Planned.{planned}
+use Rattle.ray_tracing.specs.Plan.{outputsOf}
+use Rattle.build_plan.proofs.Lengths.{counts-any}
 use Rattle.build.proofs.Room.{by-counts, refused-short, recorded-fits, room-is}
 use borrow.Author.Needs.{needs}
 use Rattle.build.proofs.record_plan.Statement.{statement}

@@ -1,7 +1,7 @@
 -- `capi::zakvind_append_instance` meets its contract: the instance is what its bytes say, and the answer is the appended one's in numbers. Assumes nothing.
 use mathlib.Core.Path.{_∙_, ap}
 use borrow.Author.Needs.{needs}
-use Rattle.answers.specs.Answers.{appendAnswer}
+use Rattle.capi_answers.specs.Answers.{appendAnswer}
 use Rattle.capi.proofs.zakvind_append_instance.Statement.{statement}
 use Rattle.capi.proofs.zakvind_append_instance.Tie as tie
 

@@ -41,22 +41,21 @@ use denote.Triple.Clauses.{ensured, lasts}
 use denote.Triple.Table.{entered, cited}
 use denote.Triple.Walked.{says, needs, Stays, stay-ref, stay-none, gave-slice, stay-none-slice, walkOf, AllGo, goes-ref, goes-none, goes-gave-slice, goes-none-slice, Walks, ends-at, walked, walk-meets}
 use denote.Exit.{yes}
-use Rattle.ray_tracing.specs.Submission.{submission, decode}
-use Rattle.actions.specs.Outcome.{lentOf}
-use Rattle.submission.specs.Numbers.{pieceOf, told, toldOf}
-use Rattle.submission.specs.declared.CommandIndices.{CommandIndices}
-use Rattle.submission.specs.declared.Validated.{Validated}
-use Rattle.submission.proofs.CommandIndices as T
-use Rattle.submission.proofs.CommandIndices.Laws as T′
-use Rattle.submission.proofs.Validated as S
-use Rattle.submission.proofs.Validated.Laws as S′
+use Rattle.ray_tracing.specs.Submission.{submission, decode, lentOf, pieceOf}
+use Rattle.submit.specs.Numbers.{shown, shownOf}
+use Rattle.submit.specs.declared.CommandIndices.{CommandIndices}
+use Rattle.submit.specs.declared.Validated.{Validated}
+use Rattle.submit.proofs.CommandIndices as T
+use Rattle.submit.proofs.CommandIndices.Laws as T′
+use Rattle.submit.proofs.Validated as S
+use Rattle.submit.proofs.Validated.Laws as S′
 use Rattle.capi.specs.declared.SubmitAnswer.{SubmitAnswer}
 use Rattle.capi.proofs.SubmitAnswer as U
 use Rattle.capi.proofs.SubmitAnswer.Laws as U′
-use Rattle.submission.proofs.submit_numbers as step
-use Rattle.submission.proofs.submit_numbers.Symbol as step-def
-use Rattle.submission.proofs.submit_numbers.Symbol.{name as #step}
-use Rattle.submission.proofs.submit_numbers.Met as step-thm
+use Rattle.submit.proofs.submit_numbers as step
+use Rattle.submit.proofs.submit_numbers.Symbol as step-def
+use Rattle.submit.proofs.submit_numbers.Symbol.{name as #step}
+use Rattle.submit.proofs.submit_numbers.Met as step-thm
 use Rattle.capi.proofs.zakvind_submit.Key.{name as #wrapper}
 use Rattle.capi.proofs.zakvind_submit as f
 use Rattle.capi.proofs.zakvind_submit.Statement as stated
@@ -128,7 +127,7 @@ module _ {M : Type 1} (𝓤 : URA M) (H : Heap 𝓤) (A : Atoms 𝓤) (W : Given
       let o = LL.owed S.the-type S′.the-laws r _ is in
       LL.owes U.the-type U′.the-laws (answer r) (o .0, (o .1 .0, (o .1 .1 .0, (o .1 .1 .1 .0, tt))))
 
-  exits : (r : Validated) (w1 : List ℕ) (w2 : List ℕ) (w3 : List ℕ) (w4 : List ℕ) → toldOf r w1 w2 w3 w4 ≡ told (submission (lentOf n (p1 .now) (p2 .now) (p3 .now) (p4 .now)) (decode (pieceOf (p5 .now) (p6 .now)))) → length w1 ≡ length (p1 .now) → length w2 ≡ length (p2 .now) → length w3 ≡ length (p3 .now) → length w4 ≡ length (p4 .now) → Is U.the-row (answer r) (val r ∷ [])
+  exits : (r : Validated) (w1 : List ℕ) (w2 : List ℕ) (w3 : List ℕ) (w4 : List ℕ) → shownOf r w1 w2 w3 w4 ≡ shown (submission (lentOf n (p1 .now) (p2 .now) (p3 .now) (p4 .now)) (decode (pieceOf (p5 .now) (p6 .now)))) → length w1 ≡ length (p1 .now) → length w2 ≡ length (p2 .now) → length w3 ≡ length (p3 .now) → length w4 ≡ length (p4 .now) → Is U.the-row (answer r) (val r ∷ [])
       → ent 𝓤 (⋆ 𝓤 H A (‵ (fobs γ (T.the-row .coded .code (h′ (r .counter)))) ∷ ‵ (fbor κ0 (Body (mem T.the-row) b o γ)) ∷ ‵ (flft κ0 q0) ∷ (‵ (flft κ1 q1) ⊛ ‵ (flft κ2 q2) ⊛ ‵ (flft κ3 q3) ⊛ ‵ (flft κ4 q4) ⊛ ‵ (flft κ5 q5) ⊛ ‵ (flft κ6 q6) ⊛ ‵ ftrue) ∷ ‵ (finally u16 (p4 .name) w4) ∷ ‵ (finally u16 (p3 .name) w3) ∷ ‵ (finally u8 (p2 .name) w2) ∷ ‵ (finally u8 (p1 .name) w1) ∷ ‵ (ShrSlice (named 6) κ6 u16 .own p6 (v6 ∷ [])) ∷ ‵ (ShrSlice (named 5) κ5 u32 .own p5 (v5 ∷ [])) ∷ [])) (Post (val r))
   exits r w1 w2 w3 w4 e l1 l2 l3 l4 is =
       qed W (‵ (fobs γ (T.the-row .coded .code (h′ (r .counter)))) ∷ ‵ (fbor κ0 (Body (mem T.the-row) b o γ)) ∷ ‵ (flft κ0 q0) ∷ (‵ (flft κ1 q1) ⊛ ‵ (flft κ2 q2) ⊛ ‵ (flft κ3 q3) ⊛ ‵ (flft κ4 q4) ⊛ ‵ (flft κ5 q5) ⊛ ‵ (flft κ6 q6) ⊛ ‵ ftrue) ∷ ‵ (finally u16 (p4 .name) w4) ∷ ‵ (finally u16 (p3 .name) w3) ∷ ‵ (finally u8 (p2 .name) w2) ∷ ‵ (finally u8 (p1 .name) w1) ∷ ‵ (ShrSlice (named 6) κ6 u16 .own p6 (v6 ∷ [])) ∷ ‵ (ShrSlice (named 5) κ5 u32 .own p5 (v5 ∷ [])) ∷ []) ∵
@@ -160,8 +159,8 @@ module _ {M : Type 1} (𝓤 : URA M) (H : Heap 𝓤) (A : Atoms 𝓤) (W : Given
         move ! (13 ∷ 7 ∷ 6 ∷ 5 ∷ 4 ∷ 2 ∷ 0 ∷ []) $ group ! 7 $ use1 W (raw (Step 𝓤 H A at-mem run .pre to-step)) (goes (LL.owed T.the-type T′.the-laws h _ was .1 .0 .1)) $
         calls-at ! fm (Step 𝓤 H A at-mem run) known to-step (and-then ! (load ! (from ! (stop !)) (look ! 26 refl)) (and-then ! (load ! (from ! (stop !)) (look ! 20 refl)) (and-then ! (load ! (from ! (stop !)) (look ! 16 refl)) (and-then ! (load ! (from ! (stop !)) (look ! 12 refl)) (and-then ! (load ! (from ! (stop !)) (look ! 8 refl)) (and-then ! (load ! (from ! (stop !)) (look ! 30 refl)) (and-then ! (load ! (from ! (stop !)) (look ! 28 refl)) (no-more !)))))))) (λ w.
         use1 W (later (some (λ (r : Validated). ((‵ (flft κ1 q1) ⊛ ‵ (flft κ2 q2) ⊛ ‵ (flft κ3 q3) ⊛ ‵ (flft κ4 q4) ⊛ ‵ (flft κ5 q5) ⊛ ‵ (flft κ6 q6) ⊛ ‵ ftrue) ⊛ ‵ (S.the-row .own r (w ∷ []))) ⊛ raw (ensured 𝓤 H A step.ended (step.clauses 𝓤 H A at-mem run) (κ1, (κ2, (κ3, (κ4, (κ5, (κ6, tt)))))) (n, (p1, (p2, (p3, (p4, (p5, (p6, tt))))))) tt r)))) (id⊢ 𝓤 _) $ await ! tt $ pick ! (λ r.
-        split ! $ move ! (1 ∷ []) $ use1 W (some (λ (ws : Unit {0} × (List ℕ × (List ℕ × (List ℕ × (List ℕ × (Unit {0} × (Unit {0} × Unit {0}))))))). ‵ (lasts step.ended (κ1, (κ2, (κ3, (κ4, (κ5, (κ6, tt)))))) (n, (p1, (p2, (p3, (p4, (p5, (p6, tt))))))) ws) ⊛ raw (fact 𝓤 (toldOf r (ws .1 .0) (ws .1 .1 .0) (ws .1 .1 .1 .0) (ws .1 .1 .1 .1 .0) ≡ told (submission (lentOf n (p1 .now) (p2 .now) (p3 .now) (p4 .now)) (decode (pieceOf (p5 .now) (p6 .now)))))))) (id⊢ 𝓤 _) $ pick ! (λ ws.
-        split ! $ move ! (1 ∷ []) $ heard ! (toldOf r (ws .1 .0) (ws .1 .1 .0) (ws .1 .1 .1 .0) (ws .1 .1 .1 .1 .0) ≡ told (submission (lentOf n (p1 .now) (p2 .now) (p3 .now) (p4 .now)) (decode (pieceOf (p5 .now) (p6 .now))))) (λ e. fsplit ! $ drop ! $ fsplit ! $ fsplit ! $ move ! (1 ∷ []) $ feqL ! (λ l1. move ! (1 ∷ []) $ fsplit ! $ fsplit ! $ move ! (1 ∷ []) $ feqL ! (λ l2. move ! (1 ∷ []) $ fsplit ! $ fsplit ! $ move ! (1 ∷ []) $ feqL ! (λ l3. move ! (1 ∷ []) $ fsplit ! $ fsplit ! $ move ! (1 ∷ []) $ feqL ! (λ l4. move ! (1 ∷ []) $ fsplit ! $ drop ! $ fsplit ! $ drop ! $ drop ! $
+        split ! $ move ! (1 ∷ []) $ use1 W (some (λ (ws : Unit {0} × (List ℕ × (List ℕ × (List ℕ × (List ℕ × (Unit {0} × (Unit {0} × Unit {0}))))))). ‵ (lasts step.ended (κ1, (κ2, (κ3, (κ4, (κ5, (κ6, tt)))))) (n, (p1, (p2, (p3, (p4, (p5, (p6, tt))))))) ws) ⊛ raw (fact 𝓤 (shownOf r (ws .1 .0) (ws .1 .1 .0) (ws .1 .1 .1 .0) (ws .1 .1 .1 .1 .0) ≡ shown (submission (lentOf n (p1 .now) (p2 .now) (p3 .now) (p4 .now)) (decode (pieceOf (p5 .now) (p6 .now)))))))) (id⊢ 𝓤 _) $ pick ! (λ ws.
+        split ! $ move ! (1 ∷ []) $ heard ! (shownOf r (ws .1 .0) (ws .1 .1 .0) (ws .1 .1 .1 .0) (ws .1 .1 .1 .1 .0) ≡ shown (submission (lentOf n (p1 .now) (p2 .now) (p3 .now) (p4 .now)) (decode (pieceOf (p5 .now) (p6 .now))))) (λ e. fsplit ! $ drop ! $ fsplit ! $ fsplit ! $ move ! (1 ∷ []) $ feqL ! (λ l1. move ! (1 ∷ []) $ fsplit ! $ fsplit ! $ move ! (1 ∷ []) $ feqL ! (λ l2. move ! (1 ∷ []) $ fsplit ! $ fsplit ! $ move ! (1 ∷ []) $ feqL ! (λ l3. move ! (1 ∷ []) $ fsplit ! $ fsplit ! $ move ! (1 ∷ []) $ feqL ! (λ l4. move ! (1 ∷ []) $ fsplit ! $ drop ! $ fsplit ! $ drop ! $ drop ! $
         move ! (4 ∷ []) $ split ! $ move ! (1 ∷ []) $ peeks ! S.the-row (Is S.the-row) (shows 𝓤 H A S.the-row) r (w ∷ []) (λ is.
         -- [the result's; the slices' tokens; the last lists; the `&` slices'; the struct's cell; what it owns; the open borrow; obs; auth; _17; …]
         land ! (from ! (stop !)) (init ! 29 refl (LL.lawful S.the-type S′.the-laws 𝓤 H A W .typed r _ is .0)) $ rewrite ! 29 (λ (u : Val). ‵ (fat fullShare S′.mir c9 0 u)) (ap only (LL.tells S.the-type S′.the-laws r _ is)) refl $
@@ -194,4 +193,4 @@ zakvind-submit-spec 𝓤 H 𝓜 𝓖 𝓡 =
     entered 𝓤 H (tripleOf 𝓤 H (𝓖 .A) f.signature (f.spec 𝓤 H (𝓖 .A) (𝓜 .mem) (𝓡 .run)))
     (tables 𝓤 H 𝓜 𝓡 code.env .C) (tables 𝓤 H 𝓜 𝓡 code.env .Λ) #wrapper code.function (code.unfolded 𝓤 H 𝓜 𝓡)
     (meets 𝓤 H (𝓖 .A) (givenOf 𝓤 H 𝓜 𝓖) (𝓜 .mem) (𝓡 .run) (tablesOf 𝓤 H 𝓜 (tables 𝓤 H 𝓜 𝓡 code.env))
-    (cited 𝓤 H (Step 𝓤 H (𝓖 .A) (𝓜 .mem) (𝓡 .run)) 𝓜 𝓡 code.env #step step-def.routine code.calls-submission·submit-numbers (step-thm.met 𝓤 H 𝓜 𝓖 𝓡)))
+    (cited 𝓤 H (Step 𝓤 H (𝓖 .A) (𝓜 .mem) (𝓡 .run)) 𝓜 𝓡 code.env #step step-def.routine code.calls-submit·submit-numbers (step-thm.met 𝓤 H 𝓜 𝓖 𝓡)))

@@ -7,7 +7,7 @@ use mathlib.Core.List.{List}
 use lib.ListN.{length}
 use lib.Seq.{sets}
 use Rattle.ray_tracing.specs.Explain.{explained, explainRule, explainBytes}
-use Rattle.text.proofs.Laws.{put-within, put-taken}
+use Rattle.report_text.proofs.Laws.{put-within, put-taken}
 use Rattle.report.proofs.Laws.{count-is, too-short, all-written}
 use Rattle.explain.proofs.Longest.{explained-most}
 use borrow.Author.Needs.{needs}

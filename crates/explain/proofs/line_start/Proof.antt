@@ -2,14 +2,14 @@
 use Prim.Native.Nat.{_-_, _≤_}
 use mathlib.Core.Path.{_≡_, refl}
 use lib.ListN.{length, drop}
-use Rattle.explain.specs.Lines.{past}
+use Rattle.explain.specs.Lines.{pastLines}
 use Rattle.explain.proofs.Laws.{past-here, past-none, past-other, past-line}
 use borrow.Author.Needs.{needs}
 use Rattle.explain.proofs.line_start.Statement.{statement}
 use Rattle.explain.proofs.line_start.Tie as tie
 
 abbrev Inv-loop : tie.InvT-loop
-Inv-loop text n left₀ k₀ left k = (k ≤ length text) × (past left (drop k text) ≡ past n text)
+Inv-loop text n left₀ k₀ left k = (k ≤ length text) × (pastLines left (drop k text) ≡ pastLines n text)
 
 abbrev μ-loop : tie.MeasureT-loop
 μ-loop text n left₀ k₀ left k = length text - k

@@ -1,7 +1,7 @@
 -- `explain::put_explained` meets its contract: the explanation is put where the report ends.
 use native.Mathlib.Omega.{arith}
 use Rattle.ray_tracing.specs.Explain.{explained}
-use Rattle.text.proofs.Laws.{put-then, put-same-length}
+use Rattle.report_text.proofs.Laws.{put-then, put-same-length}
 use Rattle.report.proofs.Lengths.{report-most}
 use borrow.Author.Needs.{needs}
 use Rattle.explain.proofs.put_explained.Statement.{statement}

@@ -2,7 +2,7 @@
 use Prim.Native.Nat.{_-_, _≤_}
 use native.Mathlib.Omega.{arith}
 use lib.ListN.{length, drop}
-use Rattle.text.proofs.Laws.{Left, left-all, left-less, left-none}
+use Rattle.report_text.proofs.Laws.{Left, left-all, left-less, left-none}
 use Rattle.explain.specs.Lines.{filled}
 use Rattle.explain.proofs.Laws.{filled-more, filled-last, filled-none}
 use borrow.Author.Needs.{needs}

@@ -3,7 +3,7 @@ use native.Mathlib.Omega.{arith}
 use mathlib.Core.Path.{sym, ap, _∙_}
 use Rattle.ray_tracing.specs.declared.Tlas.{Tlas}
 use Rattle.ray_tracing.specs.Causes.{bare}
-use Rattle.ray_tracing.specs.Mentions.{mentionOf}
+use Rattle.ray_tracing.specs.Code.{mentionOf}
 use Rattle.ray_tracing.specs.Instances.{namedInstanceRule, namedTlasRule}
 use Rattle.ray_tracing.proofs.Mentions.{mention-inside, else-first, else-rest}
 use borrow.Author.Needs.{needs}

@@ -6,8 +6,7 @@ use lib.ListN.{length, take, drop}
 use Rattle.ray_tracing.specs.declared.Section.{Section}
 use Rattle.ray_tracing.specs.declared.Sheet.{Sheet}
 use Rattle.ray_tracing.specs.Layout.{size}
-use Rattle.ray_tracing.specs.Reading.{sectionOf, sheetOf}
-use Rattle.ray_tracing.specs.Writing.{table}
+use Rattle.ray_tracing.specs.Reading.{sectionOf, sheetOf, table}
 use Rattle.report.proofs.Sections.{part-inside, part-is, parts-lendable, accepted-lines, accepted-refusal}
 use borrow.Author.Needs.{needs}
 use Rattle.report.proofs.put_accepted.Statement.{statement}

@@ -2,8 +2,8 @@
 use native.Mathlib.Omega.{arith}
 use mathlib.Core.Path.{ap}
 use Rattle.ray_tracing.specs.Causes.{bare}
-use Rattle.ray_tracing.specs.Plan.{answerOf}
-use Rattle.text.proofs.Laws.{put-then, put-same-length}
+use Rattle.ray_tracing.specs.Plan.{buildingOf}
+use Rattle.report_text.proofs.Laws.{put-then, put-same-length}
 use Rattle.report.proofs.Lengths.{build-most}
 use Rattle.report.proofs.Laws.{count-is}
 use borrow.Author.Needs.{needs}
@@ -16,7 +16,7 @@ put-submission-requires c κs =
     (c .before .before .before .before .before .before .before .before .before .before .before .before .before .before .before .before .before .before .pre .0 .0, omega (arith, c .before .before .before .before .before .before .before .before .before .before .before .before .before .before .before .before .before .before .pre .0 .1, put-same-length build, build .ends, build-most 0 0 (bare 0)))
 
 slice-aggregate-put-submission-2 : tie.Need-slice-aggregate-put-submission-2
-slice-aggregate-put-submission-2 c = count-is _ _ (c .before .before .before .before .before .before .before .before .before .before .before .before .before .before .before .before .before .before .pre .1 .1 _ _ (ap answerOf (c .before .before .before .before .before .before .built2 .given .1)))
+slice-aggregate-put-submission-2 c = count-is _ _ (c .before .before .before .before .before .before .before .before .before .before .before .before .before .before .before .before .before .before .pre .1 .1 _ _ (ap buildingOf (c .before .before .before .before .before .before .built2 .given .1)))
 
 returns : tie.Need-returns
 returns c =

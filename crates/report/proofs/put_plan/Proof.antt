@@ -3,8 +3,8 @@ use native.Mathlib.Omega.{arith}
 use mathlib.Core.List.{[], _∷_}
 use Rattle.ray_tracing.specs.Causes.{bare}
 use Rattle.ray_tracing.specs.Report.{word-scratch}
-use Rattle.text.proofs.Laws.{put-then, put-same-length, line-most}
-use Rattle.submit_lines.specs.Parts.{entriesIn, packagesIn}
+use Rattle.report_text.proofs.Laws.{put-then, put-same-length, line-most}
+use Rattle.ray_tracing.specs.Parts.{packagesIn, entriesIn}
 use Rattle.report.proofs.Lengths.{build-most}
 use Rattle.report.proofs.Laws.{blas-lines-most, tlas-lines-most}
 use borrow.Author.Needs.{needs}

@@ -3,7 +3,7 @@ use native.Mathlib.Nat.{sub-zero}
 use Prim.Native.Nat.{_+_, _-_, _*_, _≤_}
 use native.Mathlib.Omega.{arith}
 use lib.ListN.{length}
-use Rattle.text.proofs.Laws.{Left, left-all, left-less, left-none, put-same-length}
+use Rattle.report_text.proofs.Laws.{Left, left-all, left-less, left-none, put-same-length}
 use Rattle.report.specs.Parts.{tlasLinesOf}
 use Rattle.report.proofs.Laws.{tlas-line-most, tlas-more, tlas-none}
 use borrow.Author.Needs.{needs}

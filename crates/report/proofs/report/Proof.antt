@@ -4,7 +4,7 @@ use native.Mathlib.Nat.{zero-add}
 use mathlib.Core.Path.{ap, _∙_}
 use lib.Seq.{sets}
 use Rattle.ray_tracing.specs.Report.{report, reportRule, reportBytes}
-use Rattle.text.proofs.Laws.{put-within, put-taken}
+use Rattle.report_text.proofs.Laws.{put-within, put-taken}
 use Rattle.report.proofs.Lengths.{report-most}
 use Rattle.report.proofs.Laws.{count-is, too-short, all-written}
 use borrow.Author.Needs.{needs}

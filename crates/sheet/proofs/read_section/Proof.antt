@@ -38,7 +38,7 @@ use denote.Triple.Walked.{says, needs, Stays, stay-none, stay-none-slice, walkOf
 use denote.Exit.{yes}
 use denote.Triple.Clauses.{ensured, lasts}
 use Rattle.ray_tracing.specs.Reading.{judgeSection}
-use Rattle.ray_tracing.specs.Causes.{judgedOf}
+use Rattle.ray_tracing.specs.Code.{judgedOf}
 use Rattle.sheet.specs.declared.SectionReader.{SectionReader}
 use Rattle.ray_tracing.specs.declared.Judged.{Judged}
 use Rattle.sheet.proofs.SectionReader as T

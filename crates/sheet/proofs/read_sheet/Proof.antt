@@ -8,7 +8,7 @@ use borrow.Author.Needs.{needs}
 use Rattle.wire.specs.Wire.{leAt}
 use Rattle.ray_tracing.specs.Layout.{layout, size}
 use Rattle.ray_tracing.specs.Reading.{fine, past, from, judgeSection, judgeSheet, accepted, readSheet}
-use Rattle.ray_tracing.specs.Causes.{judgedOf}
+use Rattle.ray_tracing.specs.Code.{judgedOf}
 use Rattle.ray_tracing.proofs.Reading.{records-whole, section-whole}
 use Rattle.sheet.proofs.Sections.{Known, header-refused, header-fine, header-there, count-there, count-early, section-early, known-next, refused-at, left-over, read, sheet-found}
 use Rattle.sheet.proofs.read_sheet.Statement.{statement}

@@ -44,17 +44,17 @@ use denote.Triple.Walked.{says, needs, Stays, stay-none, walkOf, goes-none, Walk
 use denote.Exit.{yes}
 use denote.Triple.Clauses.{ensured, lasts}
 use Rattle.ray_tracing.specs.Reading.{judgeSection}
-use Rattle.ray_tracing.specs.Causes.{judgedOf}
+use Rattle.ray_tracing.specs.Code.{judgedOf}
 use Rattle.ray_tracing.specs.declared.Judged.{Judged}
 use Rattle.sheet.specs.declared.SectionReader.{SectionReader}
 use Rattle.sheet.proofs.SectionReader as T
 use Rattle.sheet.proofs.SectionReader.Laws as T′
 use Rattle.ray_tracing.proofs.Judged as S
 use Rattle.ray_tracing.proofs.Judged.Laws as S′
-use Rattle.sections.proofs.judge_section as judge-section
-use Rattle.sections.proofs.judge_section.Symbol as judge-section-def
-use Rattle.sections.proofs.judge_section.Symbol.{name as #sections·judge-section}
-use Rattle.sections.proofs.judge_section.Met as judge-section-thm
+use Rattle.sheet_sections.proofs.judge_section as judge-section
+use Rattle.sheet_sections.proofs.judge_section.Symbol as judge-section-def
+use Rattle.sheet_sections.proofs.judge_section.Symbol.{name as #sections·judge-section}
+use Rattle.sheet_sections.proofs.judge_section.Met as judge-section-thm
 use Rattle.sheet.proofs.SectionReader.section.Key.{name as #sheet·section}
 use Rattle.sheet.proofs.SectionReader.section as section
 use Rattle.sheet.proofs.SectionReader.section.Statement as stated
@@ -168,4 +168,4 @@ section-spec 𝓤 H 𝓜 𝓖 𝓡 =
     entered 𝓤 H (tripleOf 𝓤 H (𝓖 .A) section.signature (section.spec 𝓤 H (𝓖 .A) (𝓜 .mem) (𝓡 .run)))
     (tables 𝓤 H 𝓜 𝓡 code.env .C) (tables 𝓤 H 𝓜 𝓡 code.env .Λ) #sheet·section code.function (code.unfolded 𝓤 H 𝓜 𝓡)
     (section-meets 𝓤 H (𝓖 .A) (givenOf 𝓤 H 𝓜 𝓖) (𝓜 .mem) (𝓡 .run) (tablesOf 𝓤 H 𝓜 (tables 𝓤 H 𝓜 𝓡 code.env))
-    (cited 𝓤 H (JudgeSection 𝓤 H (𝓖 .A) (𝓜 .mem) (𝓡 .run)) 𝓜 𝓡 code.env #sections·judge-section judge-section-def.routine code.calls-sections·judge-section (judge-section-thm.met 𝓤 H 𝓜 𝓖 𝓡)))
+    (cited 𝓤 H (JudgeSection 𝓤 H (𝓖 .A) (𝓜 .mem) (𝓡 .run)) 𝓜 𝓡 code.env #sections·judge-section judge-section-def.routine code.calls-sheet-sections·judge-section (judge-section-thm.met 𝓤 H 𝓜 𝓖 𝓡)))

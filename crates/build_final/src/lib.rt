@@ -1,0 +1,138 @@
+// What is judged last, before room: 37, then 21 of Tlases, then 21 and 38 of Blases.
+use ray_tracing::Blas;
+use ray_tracing::BlasId;
+use ray_tracing::BuildAccelerationStructureError;
+use ray_tracing::Resource;
+use ray_tracing::Verdict;
+use ray_tracing::first;
+use records::blas_of_entry;
+use records::entry_at;
+use records::package_at;
+use records::tlas_of_package;
+ghost use mathlib.Core.Path.{_≡_};
+ghost use mathlib.Core.List.{[]};
+ghost use Prim.Native.Nat.{_+_, _-_, _*_, _/_, _^_, _≤_, _<_};
+ghost use lib.ListN.{length};
+ghost use lib.Dec.{eqb};
+ghost use Rattle.ray_tracing.specs.Layout.{size};
+ghost use Rattle.ray_tracing.specs.Causes.{cause, bare};
+ghost use Rattle.ray_tracing.specs.Plan.{refused, on, _or_, firstOf, tlasDestroyed, blasBuildable, packageOf, entryOf};
+ghost use Rattle.ray_tracing.specs.Code.{verdictOf};
+ghost use Rattle.ray_tracing.specs.Parts.{forPackages, forEntries, PackagesNamed, EntriesNamed};
+
+// The Tlas of package p is not destroyed.
+fn tlas_destroyed(tlases: &[u8], packages: &[u8], p: usize) -> Verdict
+    requires { ⌜ p * 4 + 4 ≤ length (now packages) ⌝ }
+    requires { ⌜ packageOf (forPackages [] [] (now packages) []) p .tlas .0 < length (now tlases) / size 4 ⌝ }
+    ensures { λ r. ⌜ verdictOf r ≡ tlasDestroyed (forPackages [] (now (tlases .entry)) (now (packages .entry)) []) p ⌝ }
+{
+    let package = package_at(packages, p * 4);
+    let tlas = tlas_of_package(tlases, packages, p);
+    if tlas.destroyed == 1 {
+        let id = package.tlas;
+        return Verdict::Refused(
+            BuildAccelerationStructureError::DestroyedResource(Resource::Tlas(id)),
+            p,
+            0,
+        );
+    }
+    Verdict::Passed
+}
+
+fn tlases_destroyed(tlases: &[u8], packages: &[u8]) -> Verdict
+    requires { ⌜ PackagesNamed (now tlases) (now packages) ⌝ }
+    ensures { λ r. ⌜
+        verdictOf r
+        ≡ firstOf (tlasDestroyed (forPackages [] (now (tlases .entry)) (now (packages .entry)) [])) 0 (length (now (packages .entry)) / size 7)
+        ⌝ }
+{
+    let n = packages.len() / 4;
+    let mut p: usize = 0;
+    while p < n {
+        let v = tlas_destroyed(tlases, packages, p);
+        if let Verdict::Refused(_, _, _) = v {
+            return v;
+        }
+        p += 1;
+    }
+    Verdict::Passed
+}
+
+// A Blas to build is not destroyed, and not compacted.
+fn buildable(blas: Blas, id: BlasId, i: usize) -> Verdict
+    ensures { λ r. ⌜
+        verdictOf r
+        ≡ (on (eqb (blas .destroyed) 1) (refused i 0 (cause 21 2 (id .0) 0))
+        or on (eqb (blas .«compacted_state») 3) (refused i 0 (bare 38)))
+        ⌝ }
+{
+    if blas.destroyed == 1 {
+        return Verdict::Refused(
+            BuildAccelerationStructureError::DestroyedResource(Resource::Blas(id)),
+            i,
+            0,
+        );
+    }
+    if blas.compacted_state == 3 {
+        return Verdict::Refused(BuildAccelerationStructureError::CompactedBlas, i, 0);
+    }
+    Verdict::Passed
+}
+
+fn blas_buildable(blases: &[u8], entries: &[u8], i: usize) -> Verdict
+    requires { ⌜ i * 5 + 5 ≤ length (now entries) ⌝ }
+    requires { ⌜ entryOf (forEntries [] [] [] (now entries) []) i .blas .0 < length (now blases) / size 2 ⌝ }
+    ensures { λ r. ⌜ verdictOf r ≡ blasBuildable (forEntries [] (now (blases .entry)) [] (now (entries .entry)) []) i ⌝ }
+{
+    let entry = entry_at(entries, i * 5);
+    let blas = blas_of_entry(blases, entries, i);
+    buildable(blas, entry.blas, i)
+}
+
+fn blases_buildable(blases: &[u8], entries: &[u8]) -> Verdict
+    requires { ⌜ EntriesNamed (now blases) (now entries) ⌝ }
+    ensures { λ r. ⌜
+        verdictOf r
+        ≡ firstOf (blasBuildable (forEntries [] (now (blases .entry)) [] (now (entries .entry)) [])) 0 (length (now (entries .entry)) / size 5)
+        ⌝ }
+{
+    let n = entries.len() / 5;
+    let mut i: usize = 0;
+    while i < n {
+        let v = blas_buildable(blases, entries, i);
+        if let Verdict::Refused(_, _, _) = v {
+            return v;
+        }
+        i += 1;
+    }
+    Verdict::Passed
+}
+
+// 37; Tlases destroyed, 21; per entry 21, 38.
+pub fn judge_final(
+    size: u64,
+    blases: &[u8],
+    tlases: &[u8],
+    entries: &[u8],
+    packages: &[u8],
+) -> Verdict
+    requires { ⌜ EntriesNamed (now blases) (now entries) × PackagesNamed (now tlases) (now packages) ⌝ }
+    ensures { λ r. ⌜
+        verdictOf r
+        ≡ (on (eqb size (2 ^ 64 - 1)) (refused 0 0 (bare 37))
+        or firstOf
+        (tlasDestroyed (forPackages [] (now (tlases .entry)) (now (packages .entry)) []))
+        0
+        (length (now (packages .entry)) / 4)
+        or firstOf
+        (blasBuildable (forEntries [] (now (blases .entry)) [] (now (entries .entry)) []))
+        0
+        (length (now (entries .entry)) / 5))
+        ⌝ }
+{
+    if size == 18446744073709551615 {
+        return Verdict::Refused(BuildAccelerationStructureError::OutOfMemory, 0, 0);
+    }
+    let v = tlases_destroyed(tlases, packages);
+    first(v, blases_buildable(blases, entries))
+}

@@ -1,0 +1,23 @@
+-- What the answers of the parts of a check mean. Assumes nothing.
+use mathlib.Core.List.{[]}
+use Rattle.ray_tracing.specs.Causes.{buildCause}
+use Rattle.ray_tracing.specs.Checks.{Checked, asks, refused}
+use Rattle.ray_tracing.specs.Code.{askedOf, rangeOf}
+use Rattle.build_geometry.specs.declared.Sizes.{Sizes}
+use Rattle.build_geometry.specs.declared.Sizes.the-variants as sizes
+use Rattle.build_geometry.specs.declared.Vertices.{Vertices}
+use Rattle.build_geometry.specs.declared.Vertices.the-variants as vertices
+use Rattle.build_geometry.specs.declared.Part.{Part}
+use Rattle.build_geometry.specs.declared.Part.the-variants as part
+
+abbrev pub sizesOf : Sizes → Checked
+sizesOf sizes.Match = asks []
+sizesOf (sizes.Refused e) = refused (buildCause e)
+
+abbrev pub verticesOf : Vertices → Checked
+verticesOf (vertices.Fine r) = asks (rangeOf r)
+verticesOf (vertices.Refused e) = refused (buildCause e)
+
+abbrev pub partOf : Part → Checked
+partOf (part.Fine a) = asks (askedOf a)
+partOf (part.Refused e) = refused (buildCause e)

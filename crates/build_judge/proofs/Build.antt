@@ -1,0 +1,134 @@
+-- How the parts of judging make the whole: what each part shows for the next, and the part of the tables that each reads.
+use Prim.Native.Nat.{ℕ, _-_, _/_, _^_}
+use native.Mathlib.Omega.{arith}
+use mathlib.Core.Path.{_≡_, refl, sym, ap, _∙_}
+use mathlib.Core.Bool.{false}
+use mathlib.Core.List.{[]}
+use lib.ListN.{length}
+use lib.Dec.{eqb}
+use borrow.Author.Tests.{eq-eqb, ne-eqb}
+use Rattle.ray_tracing.specs.Causes.{Cause, bare}
+use Rattle.ray_tracing.specs.Plan.{Tables, Verdict, passed, refused, on, _or_, firstOf, judgeTables, judgeIds, judgeEntries, judgePackages, scratchSize, tlasDestroyed, blasBuildable, judgeFinal, tablesOf}
+use Rattle.ray_tracing.proofs.Verdicts.{or-passed}
+use Rattle.ray_tracing.proofs.Inside.{drawnBefore, slotsBefore, Inside, inside, tables-drawn, tables-slots}
+use Rattle.ray_tracing.specs.Parts.{forPackages, forEntries, PackagesNamed, EntriesNamed}
+use Rattle.build_packages.specs.Within.{PackagesInside}
+use Rattle.build_ids.proofs.Laws.{or-first, or-second}
+use Rattle.build_judge.specs.Judging.{not-built, nothing, to-record, judgeToPackages, judgeBuild}
+
+module _ (x : Tables) where
+  -- what judging ids and packages reads of the tables
+  abbrev idsPart : Tables
+  idsPart = tablesOf 0 (x .buffers) (x .blases) [] (x .tlases) (x .entries) (x .geometries) (x .packages) (x .slots)
+
+  abbrev packagesPart : Tables
+  packagesPart = forPackages (x .blases) (x .tlases) (x .packages) (x .slots)
+
+  ids-part : judgeIds idsPart ≡ judgeIds x
+  unfolding judgeIds
+  ids-part = refl
+
+  entries-part : judgeEntries (forEntries (x .buffers) (x .blases) (x .declared) (x .entries) (x .geometries)) ≡ judgeEntries x
+  unfolding judgeEntries
+  entries-part = refl
+
+  packages-part : judgePackages packagesPart ≡ judgePackages x
+  unfolding judgePackages
+  packages-part = refl
+
+  -- ---- what each shows for the next
+
+  pub sums :
+      judgeTables x ≡ passed
+      → (drawnBefore (forEntries [] [] [] (x .entries) []) (length (x .entries) / 5) ≡ length (x .geometries) / 44)
+      × (slotsBefore (forPackages [] [] (x .packages) []) (length (x .packages) / 4) ≡ length (x .slots) / 56)
+  unfolding drawnBefore slotsBefore
+  sums t = (tables-drawn x t, tables-slots x t)
+
+  pub packages-inside : Inside x → PackagesInside packagesPart
+  unfolding slotsBefore
+  packages-inside h =
+      record { few = h .most 8 (omega arith) (omega arith); tlas = h .package-tlas; drawn = h .slots; blas = h .slot-blas }
+
+  pub judged-inside : judgeTables x ≡ passed → judgeIds idsPart ≡ passed → Inside x
+  judged-inside t v = inside x t (sym ids-part ∙ v)
+
+  -- ---- tables, ids, entries, packages
+
+  pub tables-refused : {t : Verdict} (e f : ℕ) (c : Cause) → t ≡ judgeTables x → t ≡ refused e f c → t ≡ judgeToPackages x
+  unfolding judgeToPackages
+  tables-refused e f c p q = or-first _ e f c p q
+
+  module _ {t : Verdict} (p : t ≡ judgeTables x) (q : t ≡ passed) where
+    pub ids-refused : {i : Verdict} (e f : ℕ) (c : Cause) → i ≡ judgeIds idsPart → i ≡ refused e f c → i ≡ judgeToPackages x
+    unfolding judgeToPackages
+    ids-refused e f c r s = or-second p q (or-first _ e f c (r ∙ ids-part) s)
+
+    pub records-judged :
+        {i v e k : Verdict}
+        → i ≡ judgeIds idsPart
+        → i ≡ passed
+        → v ≡ (e or k)
+        → e ≡ judgeEntries (forEntries (x .buffers) (x .blases) (x .declared) (x .entries) (x .geometries))
+        → k ≡ judgePackages packagesPart
+        → v ≡ judgeToPackages x
+    unfolding judgeToPackages
+    records-judged r s v e k =
+        or-second p q (or-second (r ∙ ids-part) s (v ∙ (λ j. (e ∙ entries-part) j or (k ∙ packages-part) j)))
+
+  -- ---- after them
+
+  pub records-inside : judgeToPackages x ≡ passed → Inside x
+  unfolding judgeToPackages
+  records-inside h =
+      let a = or-passed (judgeTables x) _ h in
+      let b = or-passed (judgeIds x) _ (a .1) in
+      inside x (a .0) (b .0)
+
+  pub entries-named : Inside x → EntriesNamed (x .blases) (x .entries)
+  entries-named h = h .entry-blas
+
+  pub packages-named : Inside x → PackagesNamed (x .tlases) (x .packages)
+  packages-named h = h .package-tlas
+
+  abbrev scratchPart : Tables
+  scratchPart = tablesOf (x .alignment) [] (x .blases) [] (x .tlases) (x .entries) [] (x .packages) []
+
+  pub scratch-part : scratchSize scratchPart ≡ scratchSize x
+  unfolding scratchSize
+  scratch-part = refl
+
+  -- the final checks, with the scratch size at hand
+  abbrev finalPart : ℕ → Verdict
+  finalPart size =
+      on (eqb size (2 ^ 64 - 1)) (refused 0 0 (bare 37))
+      or firstOf (tlasDestroyed (forPackages [] (x .tlases) (x .packages) [])) 0 (length (x .packages) / 4)
+      or firstOf (blasBuildable (forEntries [] (x .blases) [] (x .entries) [])) 0 (length (x .entries) / 5)
+
+  final-part : {n : ℕ} → n ≡ scratchSize x → finalPart n ≡ judgeFinal x
+  unfolding judgeFinal
+  final-part e = ap finalPart e
+
+  pub build-refused : (e f : ℕ) (c : Cause) → judgeToPackages x ≡ refused e f c → not-built e f c ≡ judgeBuild x
+  unfolding judgeBuild
+  build-refused e f c h = rw h
+
+  module _ (h : judgeToPackages x ≡ passed) {n : ℕ} (s : n ≡ scratchSize scratchPart) where
+    pub build-nothing : n ≡ 0 → nothing ≡ judgeBuild x
+    unfolding judgeBuild
+    build-nothing z = rw (h, eq-eqb (scratchSize x) 0 (sym (s ∙ scratch-part) ∙ z))
+
+    module _ (z : n ≡ 0 → ⊥) {v : Verdict} (l : v ≡ finalPart n) where
+      some-scratch : eqb (scratchSize x) 0 ≡ false
+      some-scratch = ne-eqb (scratchSize x) 0 (λ e. z (s ∙ scratch-part ∙ e))
+
+      last : v ≡ judgeFinal x
+      last = l ∙ final-part (s ∙ scratch-part)
+
+      pub build-to-record : v ≡ passed → to-record n ≡ judgeBuild x
+      unfolding judgeBuild
+      build-to-record q = rw (h, some-scratch, sym last ∙ q) (ap to-record (s ∙ scratch-part))
+
+      pub build-last-refused : (e f : ℕ) (c : Cause) → v ≡ refused e f c → not-built e f c ≡ judgeBuild x
+      unfolding judgeBuild
+      build-last-refused e f c q = rw (h, some-scratch, sym last ∙ q)

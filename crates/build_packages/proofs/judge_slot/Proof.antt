@@ -1,0 +1,11 @@
+-- `build_packages::judge_slot` meets its contract: the slot's rule, at E.
+use borrow.Author.Needs.{needs}
+use Rattle.build_packages.proofs.judge_slot.Statement.{statement}
+use Rattle.build_packages.proofs.judge_slot.Tie as tie
+
+returns : tie.Need-returns
+returns c = c .instance-verdict .ensures _ (c .before .check-slot .ensures)
+
+pub judge-slot-spec : {M : Type 1} → statement M
+judge-slot-spec =
+    tie.close (tie.spec (λ c. search needs) (λ c κs. search needs) (λ c κs. search needs) returns)

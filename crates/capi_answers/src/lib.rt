@@ -1,0 +1,211 @@
+// The entry points' answers as the numbers of C structs, unused ones 0.
+use causes::Figures;
+use causes::build_figures;
+use causes::sheet_number;
+use ray_tracing::AppendAnswer;
+use ray_tracing::Appended;
+use ray_tracing::BuildAnswer;
+use ray_tracing::Built;
+use ray_tracing::ReportAnswer;
+use ray_tracing::Reported;
+use ray_tracing::Sheet;
+use ray_tracing::SheetAnswer;
+use ray_tracing::SheetRead;
+use ray_tracing::Written;
+ghost use mathlib.Core.Path.{_≡_};
+ghost use Rattle.ray_tracing.specs.Causes.{readingOf};
+ghost use Rattle.ray_tracing.specs.Reading.{accepted, rejected};
+ghost use Rattle.ray_tracing.specs.Plan.{recorded, nothing-recorded, not-built, buildingOf};
+ghost use Rattle.ray_tracing.specs.Instances.{appendedOf};
+ghost use Rattle.ray_tracing.specs.Report.{reportedOf};
+ghost use Rattle.causes.specs.Figures.{causeOf};
+ghost use Rattle.ray_tracing.specs.Answers.{sheetAnswer, builtAnswer, appendAnswer, reportAnswer};
+
+fn sheet_accepted(x: Sheet) -> SheetAnswer
+    ensures { λ r. ⌜ r ≡ sheetAnswer (accepted x) ⌝ }
+{
+    SheetAnswer {
+        number: 0,
+        place: 0,
+        version: x.version as u64,
+        alignment: x.alignment as u64,
+        counter: x.counter,
+        buffers_start: x.buffers.start as u64,
+        buffers_count: x.buffers.count as u64,
+        blases_start: x.blases.start as u64,
+        blases_count: x.blases.count as u64,
+        declared_start: x.declared.start as u64,
+        declared_count: x.declared.count as u64,
+        tlases_start: x.tlases.start as u64,
+        tlases_count: x.tlases.count as u64,
+        entries_start: x.entries.start as u64,
+        entries_count: x.entries.count as u64,
+        geometries_start: x.geometries.start as u64,
+        geometries_count: x.geometries.count as u64,
+        packages_start: x.packages.start as u64,
+        packages_count: x.packages.count as u64,
+        slots_start: x.slots.start as u64,
+        slots_count: x.slots.count as u64,
+        actions_start: x.actions.start as u64,
+        actions_count: x.actions.count as u64,
+    }
+}
+
+fn sheet_refused(number: u64, place: u64) -> SheetAnswer
+    ensures { λ r. ⌜ r ≡ sheetAnswer (rejected number place) ⌝ }
+{
+    SheetAnswer {
+        number,
+        place,
+        version: 0,
+        alignment: 0,
+        counter: 0,
+        buffers_start: 0,
+        buffers_count: 0,
+        blases_start: 0,
+        blases_count: 0,
+        declared_start: 0,
+        declared_count: 0,
+        tlases_start: 0,
+        tlases_count: 0,
+        entries_start: 0,
+        entries_count: 0,
+        geometries_start: 0,
+        geometries_count: 0,
+        packages_start: 0,
+        packages_count: 0,
+        slots_start: 0,
+        slots_count: 0,
+        actions_start: 0,
+        actions_count: 0,
+    }
+}
+
+pub fn sheet_answer(read: SheetRead) -> SheetAnswer
+    ensures { λ r. ⌜ r ≡ sheetAnswer (readingOf read) ⌝ }
+{
+    match read {
+        SheetRead::Accepted(x) => sheet_accepted(x),
+        SheetRead::Refused(e, place) => sheet_refused(sheet_number(e), place as u64),
+    }
+}
+
+fn build_recorded(size: u64, w: Written) -> BuildAnswer
+    ensures { λ r. ⌜ r ≡ builtAnswer (recorded size w) ⌝ }
+{
+    BuildAnswer {
+        number: 0,
+        e0: 0,
+        e1: 0,
+        f0: 0,
+        f1: 0,
+        f2: 0,
+        recorded: 1,
+        scratch_size: size,
+        blas_offsets: w.blas_offsets as u64,
+        tlas_offsets: w.tlas_offsets as u64,
+        staging_ranges: w.staging_ranges as u64,
+        instances: w.instances as u64,
+        init_ranges: w.init_ranges as u64,
+        compactable: w.compactable as u64,
+        lists: w.lists as u64,
+    }
+}
+
+fn build_nothing(ranges: u64) -> BuildAnswer
+    ensures { λ r. ⌜ r ≡ builtAnswer (nothing-recorded ranges) ⌝ }
+{
+    BuildAnswer {
+        number: 0,
+        e0: 0,
+        e1: 0,
+        f0: 0,
+        f1: 0,
+        f2: 0,
+        recorded: 0,
+        scratch_size: 0,
+        blas_offsets: 0,
+        tlas_offsets: 0,
+        staging_ranges: 0,
+        instances: 0,
+        init_ranges: ranges,
+        compactable: 0,
+        lists: 0,
+    }
+}
+
+fn build_refused(figures: Figures, e: u64, f: u64) -> BuildAnswer
+    ensures { λ r. ⌜ r ≡ builtAnswer (not-built e f (causeOf figures)) ⌝ }
+{
+    BuildAnswer {
+        number: figures.number,
+        e0: e,
+        e1: f,
+        f0: figures.first,
+        f1: figures.second,
+        f2: figures.third,
+        recorded: 0,
+        scratch_size: 0,
+        blas_offsets: 0,
+        tlas_offsets: 0,
+        staging_ranges: 0,
+        instances: 0,
+        init_ranges: 0,
+        compactable: 0,
+        lists: 0,
+    }
+}
+
+pub fn build_answer(built: Built) -> BuildAnswer
+    ensures { λ r. ⌜ r ≡ builtAnswer (buildingOf built) ⌝ }
+{
+    match built {
+        Built::Recorded(size, w) => build_recorded(size, w),
+        Built::NothingRecorded(n) => build_nothing(n as u64),
+        Built::Refused(error, e, f) => build_refused(build_figures(error), e as u64, f as u64),
+    }
+}
+
+// `used` bytes were in use before, and still are where it is refused.
+pub fn append_answer(used: usize, appended: Appended) -> AppendAnswer
+    ensures { λ r. ⌜ r ≡ appendAnswer used (appendedOf appended) ⌝ }
+{
+    match appended {
+        Appended::InUse(n) => AppendAnswer {
+            number: 0,
+            e0: 0,
+            e1: 0,
+            f0: 0,
+            f1: 0,
+            f2: 0,
+            used: n as u64,
+        },
+        Appended::Refused(e) => {
+            let figures = build_figures(e);
+            AppendAnswer {
+                number: figures.number,
+                e0: 0,
+                e1: 0,
+                f0: figures.first,
+                f1: figures.second,
+                f2: figures.third,
+                used: used as u64,
+            }
+        }
+    }
+}
+
+pub fn report_answer(reported: Reported) -> ReportAnswer
+    ensures { λ r. ⌜ r ≡ reportAnswer (reportedOf reported) ⌝ }
+{
+    match reported {
+        Reported::Written(n) => ReportAnswer {
+            number: 0,
+            written: n as u64,
+        },
+        Reported::TooShort => ReportAnswer {
+            number: 39,
+            written: 0,
+        },
+    }
+}

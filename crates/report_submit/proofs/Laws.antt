@@ -1,0 +1,154 @@
+-- One more action or position, as a loop counts.
+use Prim.Native.Nat.{ℕ, zero, suc, _+_, _-_, _*_, _/_, _≤_, _<_}
+use native.Mathlib.Nat.{not-suc-le-zero, le-of-suc-le-suc}
+use native.Mathlib.Omega.{arith}
+use native.Mathlib.Numerals.{add-one, sub-one}
+use mathlib.Core.Bool.{Bool, true, false, not, cond}
+use mathlib.Core.Path.{_≡_, refl, sym, ap, _∙_}
+use mathlib.Core.List.{List, [], _∷_, _++_}
+use lib.Dec.{eqb}
+use lib.ListN.{length, getD, set, take, replicate, length-append}
+use lib.Seq.{sets, length-take-le}
+use borrow.Author.Tests.{eq-eqb, ne-eqb, not-true, not-false}
+use Rattle.ray_tracing.specs.Records.{fieldAt}
+use Rattle.ray_tracing.specs.Plan.{Tables, recordsIn}
+use Rattle.ray_tracing.specs.Report.{line, word-submit, word-next, submitNumbers, outcomeLines, kept, actionCells, positions}
+use Rattle.report_text.specs.Put.{Put}
+use Rattle.report_text.proofs.Laws.{put-nothing}
+use Rattle.ray_tracing.proofs.Plan.{left-more, left-none}
+use Rattle.ray_tracing.specs.declared.Submitted.{Submitted}
+use Rattle.ray_tracing.specs.Submission.{Lent, Answer, accepted, refused, _leaving_, decode, submission, outcomeOf, counterOf, answerOf, lentOf, pieceOf}
+use Rattle.ray_tracing.specs.Explain.{outcomeRefusal}
+use Rattle.report_submit.specs.Parts.{actionsIn, kindOf, keptCells, submissionOutcome, submissionLines}
+use Rattle.ray_tracing.specs.Parts.{listing}
+use Rattle.report_submit.specs.Refused.{answerRefused, submissionRefusal}
+
+pub not-one : (b : Bool) → not b ≡ cond b false true
+not-one true = refl
+not-one false = refl
+
+pub four-stored : (s : List ℕ) (at a b c d : ℕ) → set (set (set (set s at a) (at + 1) b) (at + 2) c) (at + 3) d ≡ sets s at (a ∷ b ∷ c ∷ d ∷ [])
+four-stored s at a b c d =
+    let two : at + 2 ≡ suc (suc at) = omega arith in
+    let three : at + 3 ≡ suc (suc (suc at)) = omega arith in
+    rw (add-one, two, three)
+
+cells-four : (x : Tables) (b d : Bool) (kind operand : ℕ) → length (cond b (cond d (1 ∷ 0 ∷ recordsIn x 5 ∷ recordsIn x 7 ∷ []) (kind ∷ operand ∷ 0 ∷ 0 ∷ [])) []) ≤ 4
+cells-four x true true kind operand = omega arith
+cells-four x true false kind operand = omega arith
+cells-four x false d kind operand = omega arith
+
+module _ (x : Tables) (recorded : Bool) (a : List ℕ) (i n : ℕ) where
+  pub kept-most : length (keptCells x recorded a i) ≤ 4
+  kept-most = cells-four x (kept recorded (kindOf a i)) (eqb (kindOf a i) 1) (kindOf a i) (fieldAt 9 a (i * 3) 1)
+
+  pub cells-more : i < n → actionCells x recorded a i (n - i) ≡ keptCells x recorded a i ++ actionCells x recorded a (i + 1) (n - (i + 1))
+  unfolding actionCells
+  cells-more h = rw (left-more i n h)
+
+  pub cells-none : n ≤ i → actionCells x recorded a i (n - i) ≡ []
+  unfolding actionCells
+  cells-none h = rw (left-none i n h)
+
+-- action i, by its kind k and whether it is kept, b
+module _ (x : Tables) (recorded : Bool) (a : List ℕ) (i at : ℕ) {s : List ℕ} {k : ℕ} {b : Bool} (e : k ≡ kindOf a i) (f : b ≡ kept recorded k) where
+  pub put-none : not b ≡ true → Put s at (keptCells x recorded a i) at s
+  put-none h = rw (← e, ← f, not-true b h) (put-nothing s at)
+
+  pub put-recorded : {t : List ℕ} → not b ≡ false → k ≡ 1 → t ≡ sets s at (1 ∷ 0 ∷ recordsIn x 5 ∷ recordsIn x 7 ∷ []) → Put s at (keptCells x recorded a i) (at + 4) t
+  put-recorded h l g = rw (← e, ← f, not-false b h, eq-eqb k 1 l) (record { ends = refl; bytes = g })
+
+  pub put-other :
+      {t : List ℕ} {o : ℕ}
+      → not b ≡ false
+      → (k ≡ 1 → ⊥)
+      → o ≡ fieldAt 9 a (i * 3) 1
+      → t ≡ sets s at (k ∷ o ∷ 0 ∷ 0 ∷ [])
+      → Put s at (keptCells x recorded a i) (at + 4) t
+  put-other h l m g = rw (← e, ← f, not-false b h, ne-eqb k 1 l, ← m) (record { ends = refl; bytes = g })
+
+-- ---- positions
+
+position-rest : (l : List ℕ) (i k : ℕ) → (k ≡ 0 → ⊥) → getD (i ∷ l) k 0 ≡ getD l (k - 1) 0
+position-rest l i zero h = absurd (h refl)
+position-rest l i (suc k) h = rw sub-one
+
+module _ (recorded : Bool) (a : List ℕ) (i n left whole : ℕ) (inv : getD (positions recorded a i (n - i)) left 0 ≡ whole) where
+  pub position-none : n ≤ i → 0 ≡ whole
+  unfolding positions
+  position-none h = rw (left-none i n h) at inv
+
+  module _ (h : i < n) {k : ℕ} {b : Bool} (e : k ≡ kindOf a i) (f : b ≡ kept recorded k) where
+    pub position-passed : not b ≡ true → getD (positions recorded a (i + 1) (n - (i + 1))) left 0 ≡ whole
+    unfolding positions
+    position-passed g = rw (left-more i n h, ← e, ← f, not-true b g) at inv
+
+    kept-is : not b ≡ false → getD (i ∷ positions recorded a (i + 1) (n - (i + 1))) left 0 ≡ whole
+    unfolding positions
+    kept-is g = rw (left-more i n h, ← e, ← f, not-false b g) at inv
+
+    pub position-here : not b ≡ false → left ≡ 0 → i ≡ whole
+    position-here g z = rw z at (kept-is g)
+
+    pub position-later : not b ≡ false → (left ≡ 0 → ⊥) → getD (positions recorded a (i + 1) (n - (i + 1))) (left - 1) 0 ≡ whole
+    position-later g z = sym (position-rest (positions recorded a (i + 1) (n - (i + 1))) i left z) ∙ kept-is g
+
+-- ---- what is lent
+
+cells-most : (x : Tables) (recorded : Bool) (a : List ℕ) (i n : ℕ) → length (actionCells x recorded a i n) ≤ n * 4
+unfolding actionCells
+cells-most x recorded a i zero = omega arith
+cells-most x recorded a i (suc n) =
+    simp length-append (omega (arith, kept-most x recorded a i 0, cells-most x recorded a (i + 1) n))
+
+pub cells-fit : (x : Tables) (recorded : Bool) (a : List ℕ) → actionsIn a ≤ 64 → length (actionCells x recorded a 0 (actionsIn a)) ≤ 256
+cells-fit x recorded a h = omega (arith, cells-most x recorded a 0 (actionsIn a))
+
+pub count-is : (n : ℕ) (l : List ℕ) → n ≤ length l → n ≡ length (take n l)
+count-is n l h = sym (length-take-le n l h)
+
+pub zeros : (n m : ℕ) → n ≤ m → take {A = ℕ} n (replicate m 0) ≡ replicate n 0
+zeros zero m h = refl
+zeros (suc n) zero h = absurd (not-suc-le-zero h)
+zeros (suc n) (suc m) h = ap (λ (l : List ℕ). 0 ∷ l) (zeros n m (le-of-suc-le-suc h))
+
+-- the submission s of copies b and t, empty lists c and d, and cells l
+module _
+    (counter : ℕ)
+    (blases tlases entries packages : List ℕ)
+    (recorded : Bool)
+    (actions lists : List ℕ)
+    (s : Submitted)
+    {b t c d l after-b after-t after-c after-d : List ℕ}
+    (o : outcomeOf s after-b after-t after-c after-d ≡ submission (lentOf counter b t c d) (decode (pieceOf l lists)))
+    (e : b ≡ blases)
+    (f : t ≡ tlases)
+    (g : c ≡ replicate (length tlases / 22) 0)
+    (h : d ≡ replicate (length tlases / 22 * 512) 0)
+    (k : l ≡ actionCells (listing entries packages) recorded actions 0 (actionsIn actions))
+  where
+    outcome-is :
+        outcomeOf s after-b after-t after-c after-d ≡ submissionOutcome counter blases tlases entries packages recorded actions lists
+    unfolding submissionOutcome
+    outcome-is = rw (e, f, g, h, k) at o
+
+    pub lines-are :
+        (line word-submit (submitNumbers (positions recorded actions 0 (actionsIn actions)) (answerOf s)) ++ line word-next (counterOf s ∷ []))
+        ≡ submissionLines counter blases tlases entries packages recorded actions lists
+    unfolding submissionLines
+    lines-are = ap (outcomeLines (positions recorded actions 0 (actionsIn actions))) outcome-is
+
+    pub refusal-is :
+        answerRefused actions (positions recorded actions 0 (actionsIn actions)) (answerOf s)
+        ≡ submissionRefusal counter blases tlases entries packages recorded actions lists
+    unfolding submissionRefusal
+    refusal-is =
+        answered (answerOf s) (lentOf (counterOf s) after-b after-t after-c after-d)
+        ∙ ap (outcomeRefusal actions (positions recorded actions 0 (actionsIn actions))) outcome-is
+      where
+        answered :
+            (v : Answer) (left : Lent)
+            → answerRefused actions (positions recorded actions 0 (actionsIn actions)) v
+            ≡ outcomeRefusal actions (positions recorded actions 0 (actionsIn actions)) (v leaving left)
+        answered accepted left = refl
+        answered (refused i cause) left = refl

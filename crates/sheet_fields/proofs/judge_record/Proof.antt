@@ -1,0 +1,24 @@
+-- `sheet_fields::judge_record` meets its contract: a whole record that fits is fine, and any other is judged by the table.
+use native.Mathlib.Omega.{arith}
+use mathlib.Core.Path.{sym, _∙_}
+use borrow.Author.Needs.{needs}
+use Rattle.sheet_fits.proofs.Laws.{fits-fine}
+use Rattle.sheet_fields.proofs.judge_record.Statement.{statement}
+use Rattle.sheet_fields.proofs.judge_record.Tie as tie
+
+returns : tie.Need-returns
+returns c =
+    let a = c .before .before .before .before .before .before .args in
+    let s = c .before .before .before .size-of .ensures in
+    sym (fits-fine (a .section) _ (a .s .now) (a .at) (rw (← s) (omega arith)) (sym (c .before .record-fits .ensures) ∙ c .if2 .taken))
+
+pub judge-record-spec : {M : Type 1} → statement M
+judge-record-spec =
+    tie.close
+    (tie.spec
+    (λ c κs. search needs)
+    (λ c. search needs)
+    (λ c κs. ((c .before .before .before .before .pre .0 .1, rw (← c .before .size-of .ensures) (omega arith)), c .before .before .before .before .pre .1))
+    returns
+    (λ c κs. search needs)
+    (λ c. search needs))

@@ -1,0 +1,27 @@
+-- A submission from its judged start and its run, and what is told of it by the paper's numbers.
+use mathlib.Core.Path.{_≡_, ap, _∙_}
+use mathlib.Core.Option.{none}
+use mathlib.Core.List.{List}
+use Prim.Native.Nat.{ℕ}
+use Rattle.ray_tracing.specs.declared.Submitted.{Submitted}
+use Rattle.ray_tracing.specs.declared.ValidateAsActionsError.{ValidateAsActionsError}
+use Rattle.ray_tracing.specs.Submission.{Lent, Action, Outcome, judge, run, submission, answerNumbers, outcomeOf, counterOf, answerOf, lentOf}
+use Rattle.submit_checks.specs.Outcome.{causeOf, submittedOf}
+use Rattle.submit.specs.Numbers.{shown, numbersOf, shownOf}
+use Rattle.submit.specs.declared.Validated.{Validated}
+use Rattle.submit_checks.specs.declared.Checked.{Checked}
+use Rattle.submit_checks.specs.declared.Checked.the-variants.{Refused}
+use Rattle.submit_checks.proofs.Walks.{refusal}
+
+pub submission-refused : (l : Lent) (acts : List Action) {x : Checked} {e : ValidateAsActionsError} → causeOf x ≡ judge l → x ≡ Refused e
+    → outcomeOf (submittedOf x 0 (l .counter)) (l .blases) (l .tlases) (l .dependencyCounts) (l .dependencies) ≡ submission l acts
+unfolding submission
+submission-refused l acts p q = rw (q, refusal p q)
+
+pub submission-runs : (l : Lent) (acts : List Action) {o : Outcome} → judge l ≡ none → o ≡ run l acts → o ≡ submission l acts
+unfolding submission
+submission-runs l acts p q = rw p q
+
+pub told-is : (x : Submitted) (v : Validated) (b t c d : List ℕ) {o : Outcome} → numbersOf v ≡ answerNumbers (answerOf x) → v .counter ≡ counterOf x → outcomeOf x b t c d ≡ o
+    → shownOf v b t c d ≡ shown o
+told-is x v b t c d p q e = (λ i. record { numbers = p i; left = lentOf (q i) b t c d }) ∙ ap shown e
