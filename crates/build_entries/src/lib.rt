@@ -1,7 +1,7 @@
 // Entries, geometries in turn: each against what its Blas declares, found by an index of section 3.
-use build_geometry::check_aabbs;
-use build_geometry::check_triangles;
+use build_boxes::check_aabbs;
 use build_ids::geometry_count;
+use build_triangles::check_triangles;
 use ray_tracing::Blas;
 use ray_tracing::BlasGeometry;
 use ray_tracing::BlasId;
