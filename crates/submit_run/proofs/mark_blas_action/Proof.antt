@@ -1,15 +1,15 @@
--- `submit_step::mark_blas_action` meets its contract: each return is the definition's own case. Assumes nothing.
+-- `submit_run::mark_blas_action` meets its contract: each return is the definition's own case. Assumes nothing.
 use Rattle.ray_tracing.specs.Submission.{packagesAt, packagesLent, lentOf, markBlas}
 use Rattle.submit_checks.proofs.Walks.{nothing}
 use Rattle.submit_checks.proofs.Steps.{step-refused}
-use Rattle.submit_step.proofs.ByKind.{before-mark-blas}
+use Rattle.submit_run.proofs.ByKind.{before-mark-blas}
 use Rattle.submit_checks.proofs.Start.{ready}
 use Rattle.submit_checks.specs.Known.{blasesIn}
 use Rattle.ray_tracing.proofs.Firsts.{inside}
 use native.Mathlib.Omega.{arith}
 use borrow.Author.Needs.{needs}
-use Rattle.submit_step.proofs.mark_blas_action.Statement.{statement}
-use Rattle.submit_step.proofs.mark_blas_action.Tie as tie
+use Rattle.submit_run.proofs.mark_blas_action.Statement.{statement}
+use Rattle.submit_run.proofs.mark_blas_action.Tie as tie
 
 returns : tie.Need-returns
 returns c = let a = c .before .before .before .before .before .before .before .before .before .args in let l = lentOf (a .counter) (a .blases .now) (a .tlases .now) (a .dependency-counts .now) (a .dependencies .now) in rw (c .submitted .ensures) (step-refused l (markBlas (a .operand)) (a .index) _ (before-mark-blas l (a .operand) (c .before .before .before .judge-blas .ensures) (c .before .enum-told .given .1)) (c .before .enum-told .given .1))

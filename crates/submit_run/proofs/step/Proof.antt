@@ -1,8 +1,8 @@
--- `submit_step::step` meets its contract: each return is the definition's own case. Assumes nothing.
-use Rattle.submit_step.proofs.ByKind.{kind-build, kind-use, kind-mark-blas, kind-mark-tlas, kind-none, malformed-step}
+-- `submit_run::step` meets its contract: each return is the definition's own case. Assumes nothing.
+use Rattle.submit_run.proofs.ByKind.{kind-build, kind-use, kind-mark-blas, kind-mark-tlas, kind-none, malformed-step}
 use borrow.Author.Needs.{needs}
-use Rattle.submit_step.proofs.step.Statement.{statement}
-use Rattle.submit_step.proofs.step.Tie as tie
+use Rattle.submit_run.proofs.step.Statement.{statement}
+use Rattle.submit_run.proofs.step.Tie as tie
 
 returns : tie.Need-returns
 returns c = let a = c .before .before .before .before .before .before .before .before .before .before .before .before .before .before .before .before .before .before .before .args in rw (kind-build (a .lists .now) (a .kind) (a .operand) (a .blas-count) (a .tlas-count) (c .before .before .before .before .before .before .before .before .before .before .before .before .before .if1 .taken)) (c .before .before .before .before .before .before .before .before .build-action .ensures)
