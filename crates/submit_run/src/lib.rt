@@ -1,83 +1,41 @@
-// The actions of a submission: each by its kind, a Build, a use, or a mark, which is a Build too; and in turn, to the first that is refused.
+// The actions of a submission: one by its kind, a Build, a use, or a mark, which is a Build too; and in turn, to the first that is
+// refused.
 use ray_tracing::Submitted;
+use ray_tracing::TlasId;
 use ray_tracing::ValidateAsActionsError;
+use ray_tracing::pick;
 use submit_build::build_action;
 use submit_checks::Checked;
-use submit_checks::judge_blas;
-use submit_checks::judge_tlas;
 use submit_checks::submitted;
 use submit_use::use_action;
 ghost use mathlib.Core.Path.{_≡_};
 ghost use mathlib.Core.Option.{none};
 ghost use Rattle.ray_tracing.specs.Submission as Submission;
-ghost use Rattle.ray_tracing.specs.Submission.{judge, markBlas, markTlas, action, decodeCells, later, outcomeOf, lentOf};
+ghost use Rattle.ray_tracing.specs.Submission.{judge, action, decode};
+ghost use Rattle.ray_tracing.specs.Submission.{outcomeOf, lentOf, lentWith, pieceOf, buffersOf};
+ghost use Rattle.submit_checks.specs.Outcome.{causeOf, Acts};
+ghost use Rattle.submit_run.specs.Operand.{operandCause};
 
-// A mark is a Build whose Tlases list nothing: its lists stand in an array of its own.
-fn mark_blas_action(
-    counter: u64,
-    blases: &mut [u8],
-    tlases: &mut [u8],
-    dependency_counts: &mut [u16],
-    dependencies: &mut [u16],
-    operand: usize,
-    index: usize,
-) -> Submitted
-    requires { ⌜ judge (lentOf counter (now blases) (now tlases) (now «dependency_counts») (now dependencies)) ≡ none ⌝ }
-    ensures { λ r. ⌜ outcomeOf r (now (blases .exit)) (now (tlases .exit)) (now («dependency_counts» .exit)) (now (dependencies .exit))
-        ≡ later index (Submission.step (lentOf counter (now (blases .entry)) (now (tlases .entry)) (now («dependency_counts» .entry)) (now (dependencies .entry))) (markBlas operand)) ⌝ }
+// An operand is a number until it is judged.
+const LARGEST_ID: u32 = 65535;
+
+// Of an action that is no Build: 5 of its kind, then 6 of an operand that no id is as large as.
+fn judge_operand(kind: u32, operand: u32) -> Checked
+    ensures { λ r. ⌜ causeOf r ≡ operandCause kind operand ⌝ }
 {
-    let checked = judge_blas(&blases[..], operand);
-    if let Checked::Refused(_) = checked {
-        return submitted(checked, index, counter);
+    if kind < 2 {
+        return Checked::Refused(ValidateAsActionsError::InvalidValue);
     }
-    let lists = [operand as u16];
-    build_action(
-        counter,
-        blases,
-        tlases,
-        dependency_counts,
-        dependencies,
-        &lists,
-        0,
-        1,
-        0,
-        index,
-    )
+    if 4 < kind {
+        return Checked::Refused(ValidateAsActionsError::InvalidValue);
+    }
+    if LARGEST_ID < operand {
+        return Checked::Refused(ValidateAsActionsError::InvalidResource);
+    }
+    Checked::Fine
 }
 
-fn mark_tlas_action(
-    counter: u64,
-    blases: &mut [u8],
-    tlases: &mut [u8],
-    dependency_counts: &mut [u16],
-    dependencies: &mut [u16],
-    operand: usize,
-    index: usize,
-) -> Submitted
-    requires { ⌜ judge (lentOf counter (now blases) (now tlases) (now «dependency_counts») (now dependencies)) ≡ none ⌝ }
-    ensures { λ r. ⌜ outcomeOf r (now (blases .exit)) (now (tlases .exit)) (now («dependency_counts» .exit)) (now (dependencies .exit))
-        ≡ later index (Submission.step (lentOf counter (now (blases .entry)) (now (tlases .entry)) (now («dependency_counts» .entry)) (now (dependencies .entry))) (markTlas operand)) ⌝ }
-{
-    let checked = judge_tlas(&tlases[..], operand);
-    if let Checked::Refused(_) = checked {
-        return submitted(checked, index, counter);
-    }
-    let lists = [operand as u16, 0];
-    build_action(
-        counter,
-        blases,
-        tlases,
-        dependency_counts,
-        dependencies,
-        &lists,
-        0,
-        0,
-        1,
-        index,
-    )
-}
-
-// One action, as action `index`.
+// One action, as action `index`. A mark is a Build whose Tlases list nothing: its lists stand in an array of its own.
 fn step(
     counter: u64,
     blases: &mut [u8],
@@ -92,10 +50,14 @@ fn step(
     index: usize,
 ) -> Submitted
     requires { ⌜ judge (lentOf counter (now blases) (now tlases) (now «dependency_counts») (now dependencies)) ≡ none ⌝ }
-    ensures { λ r. ⌜ outcomeOf r (now (blases .exit)) (now (tlases .exit)) (now («dependency_counts» .exit)) (now (dependencies .exit))
-        ≡ later index (Submission.step (lentOf counter (now (blases .entry)) (now (tlases .entry)) (now («dependency_counts» .entry)) (now (dependencies .entry))) (action (now (lists .entry)) kind operand «blas_count» «tlas_count»)) ⌝ }
+    ensures { λ r. ⌜ Acts
+        counter
+        (buffersOf (now (blases .entry)) (now (tlases .entry)) (now («dependency_counts» .entry)) (now (dependencies .entry)))
+        index
+        (action (now (lists .entry)) kind operand «blas_count» «tlas_count»)
+        r
+        (buffersOf (now (blases .exit)) (now (tlases .exit)) (now («dependency_counts» .exit)) (now (dependencies .exit))) ⌝ }
 {
-    let id = operand as usize;
     if kind == 1 {
         return build_action(
             counter,
@@ -104,12 +66,17 @@ fn step(
             dependency_counts,
             dependencies,
             lists,
-            id,
+            operand as usize,
             blas_count as usize,
             tlas_count as usize,
             index,
         );
     }
+    let checked = judge_operand(kind, operand);
+    if let Checked::Refused(_) = checked {
+        return submitted(checked, index, counter);
+    }
+    let id = operand as u16;
     if kind == 2 {
         return use_action(
             counter,
@@ -117,33 +84,25 @@ fn step(
             &tlases[..],
             &dependency_counts[..],
             &dependencies[..],
-            id,
+            TlasId(id),
             index,
         );
     }
-    if kind == 3 {
-        return mark_blas_action(
-            counter,
-            blases,
-            tlases,
-            dependency_counts,
-            dependencies,
-            id,
-            index,
-        );
-    }
-    if kind == 4 {
-        return mark_tlas_action(
-            counter,
-            blases,
-            tlases,
-            dependency_counts,
-            dependencies,
-            id,
-            index,
-        );
-    }
-    Submitted::Refused(ValidateAsActionsError::InvalidValue, index, counter)
+    let own = [id, 0];
+    let blas_mark = pick(kind == 3, 1, 0);
+    let tlas_mark = pick(kind == 3, 0, 1);
+    build_action(
+        counter,
+        blases,
+        tlases,
+        dependency_counts,
+        dependencies,
+        &own,
+        0,
+        blas_mark,
+        tlas_mark,
+        index,
+    )
 }
 
 // The actions in turn, to the first that is refused.
@@ -157,8 +116,11 @@ pub fn run(
     lists: &[u16],
 ) -> Submitted
     requires { ⌜ judge (lentOf counter (now blases) (now tlases) (now «dependency_counts») (now dependencies)) ≡ none ⌝ }
-    ensures { λ r. ⌜ outcomeOf r (now (blases .exit)) (now (tlases .exit)) (now («dependency_counts» .exit)) (now (dependencies .exit))
-        ≡ Submission.run (lentOf counter (now (blases .entry)) (now (tlases .entry)) (now («dependency_counts» .entry)) (now (dependencies .entry))) (decodeCells (now (lists .entry)) (now (actions .entry))) ⌝ }
+    ensures { λ r. ⌜ outcomeOf r (now (blases .exit)) (now (tlases .exit)) (now («dependency_counts» .exit))
+        (now (dependencies .exit))
+        ≡ Submission.run (lentWith counter
+        (buffersOf (now (blases .entry)) (now (tlases .entry)) (now («dependency_counts» .entry)) (now (dependencies .entry))))
+        (decode (pieceOf (now (actions .entry)) (now (lists .entry)))) ⌝ }
 {
     let mut number = counter;
     let mut at = 0;
