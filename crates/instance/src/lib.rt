@@ -28,7 +28,7 @@ ghost use Rattle.ray_tracing.specs.Records.{fieldAt};
 ghost use Rattle.ray_tracing.specs.Causes.{bare};
 ghost use Rattle.ray_tracing.specs.Mentions.{blasOf};
 ghost use Rattle.ray_tracing.specs.Code.{mentionOf, instanceCause};
-ghost use Rattle.ray_tracing.specs.Instances.{nanOf, bitsOf, patterns, words, tailBytes, instanceBytes, instanceFrom, presentAt, slotBytes, slotsBytes, presentOf, returnsVertices, instanceRule, namedInstanceRule, namedTlasRule, slotMention, slotRule, appendedOf, appendRule, appendBytes};
+ghost use Rattle.ray_tracing.specs.Instances.{nanOf, bitsOf, patterns, words, tailBytes, instanceBytes, instanceFrom, presentAt, slotBytes, slotsBytes, presentOf, returnsVertices, instanceRule, namedInstanceRule, namedTlasRule, slotMention, slotRule, appendedOf, Appends};
 ghost use Rattle.instance.specs.Writable.{Writable};
 
 // A number, and the pattern that it was read from where that is a NaN's, else 0.
@@ -202,8 +202,8 @@ pub fn append_instance(
     instances: &mut [u8],
     used: usize,
 ) -> Appended
-    ensures { λ r. ⌜ appendedOf r ≡ appendRule (now (tlases .entry)) (now (blases .entry)) tlas instance (length (now (instances .entry))) used ⌝ }
-    ensures { λ _. ⌜ now (instances .exit) ≡ appendBytes (now (tlases .entry)) (now (blases .entry)) tlas instance (now (instances .entry)) used ⌝ }
+    ensures { λ r. ⌜ Appends (now (tlases .entry)) (now (blases .entry)) tlas instance (now (instances .entry)) used
+        (appendedOf r) (now (instances .exit)) ⌝ }
 {
     let checked = check_named_tlas(tlases, blases, tlas, instance);
     match checked {

@@ -8,10 +8,10 @@ use mathlib.Core.Path.{_≡_, refl, sym, ap, _∙_}
 use mathlib.Core.List.{List, [], _∷_, _++_, append-assoc, append-nil}
 use lib.Dec.{ltb}
 use lib.ListN.{length, take, drop, getD, set, length-append, length-drop, length-set, drop-of-length-le}
-use lib.Seq.{sets, length-sets, take-all, drop-cons, drop-set-lt, getD-set-same, sets-eq, take-at}
+use lib.Seq.{sets, length-sets, length-take-le, take-all, drop-cons, drop-set-lt, getD-set-same, sets-eq, take-at}
 use borrow.Author.Tests.{lt-ltb, le-ltb}
 use Rattle.wire.proofs.Laws.{sets-append}
-use Rattle.ray_tracing.specs.Report.{digits, decimal, spaced, line}
+use Rattle.ray_tracing.specs.Report.{digits, decimal, spaced, line, reporting, textRule, textBytes, Puts}
 use Rattle.ray_tracing.specs.Sizes.{longestLine}
 use Rattle.report_text.specs.Put.{Put}
 
@@ -42,6 +42,28 @@ module _ {s t x : List ℕ} {end : ℕ} (p : Put s 0 x end t) (h : length x ≤ 
   put-taken =
       rw (p .bytes, p .ends, zero-add (length x), sets-eq x s 0 (omega arith))
       (take-at x (drop (0 + length x) s) (length x) refl)
+
+pub count-is : (n : ℕ) (l : List ℕ) → n ≤ length l → n ≡ length (take n l)
+count-is n l h = sym (length-take-le n l h)
+
+-- ---- a text into lent bytes
+
+pub text-short : (text out : List ℕ) → length out < length text → Puts text out (reporting 39 0) out
+unfolding textRule textBytes
+text-short text out h =
+    record { answer = rw (lt-ltb (length out) (length text) h); left = rw (lt-ltb (length out) (length text) h) }
+
+pub text-fits :
+    {text out left : List ℕ} {n : ℕ}
+    → length text ≤ length out
+    → Put out 0 text n left
+    → Puts text out (reporting 0 n) left
+unfolding textRule textBytes
+text-fits {text} {out} h p =
+    record {
+      answer = rw (le-ltb (length out) (length text) h, p .ends, zero-add);
+      left = rw (le-ltb (length out) (length text) h) (p .bytes);
+    }
 
 -- ---- what is left to write: `rest` from `end` on, of a text from `at` on
 

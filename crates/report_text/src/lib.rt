@@ -1,9 +1,10 @@
 // Words, decimal numbers and lines in lent bytes.
+use ray_tracing::Reported;
 ghost use mathlib.Core.Path.{_≡_};
 ghost use Prim.Native.Nat.{_+_, _*_, _≤_};
 ghost use mathlib.Core.List.{[], _∷_};
 ghost use lib.ListN.{length};
-ghost use Rattle.ray_tracing.specs.Report.{decimal, spaced, line};
+ghost use Rattle.ray_tracing.specs.Report.{decimal, spaced, line, reportedOf, Puts};
 ghost use Rattle.ray_tracing.specs.Sizes.{longestLine};
 ghost use Rattle.report_text.specs.Put.{Put};
 
@@ -84,4 +85,14 @@ pub fn put_line(out: &mut [u8], at: usize, word: &[u8], numbers: &[u64]) -> usiz
     let named = put(out, at, word);
     let numbered = put_numbers(out, named, numbers);
     put_byte(out, numbered, b'\n')
+}
+
+// The whole text, if it fits into what is lent.
+pub fn put_text(out: &mut [u8], text: &[u8]) -> Reported
+    ensures { λ r. ⌜ Puts (now (text .entry)) (now (out .entry)) (reportedOf r) (now (out .exit)) ⌝ }
+{
+    if out.len() < text.len() {
+        return Reported::TooShort;
+    }
+    Reported::Written(put(out, 0, text))
 }

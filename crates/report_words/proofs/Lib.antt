@@ -1,0 +1,4 @@
+pub mod Laws
+pub mod Refusals
+pub mod Longest
+pub mod Told

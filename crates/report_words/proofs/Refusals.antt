@@ -1,0 +1,285 @@
+-- Each line, filled, is the words of its refusal: number by number, by computing.
+use Prim.Native.Nat.{ℕ, zero, suc, _+_, _≤_, _<_}
+use native.Mathlib.Omega.{arith}
+use mathlib.Core.Bool.{Bool, true, false, _&&_, _||_, cond}
+use mathlib.Core.Path.{_≡_, refl, sym, _∙_}
+use mathlib.Core.List.{List, [], _∷_, _++_, append-assoc}
+use lib.Dec.{eqb, ltb, leb}
+use borrow.Author.Tests.{ltb-true, ltb-false, leb-true, eqb-true, ne-eqb}
+use Rattle.ray_tracing.specs.Causes.{Cause, cause}
+use Rattle.ray_tracing.specs.Report.{ascii, decimal, digits}
+use Rattle.ray_tracing.specs.Explain.{
+  nothing,
+  of-sheet,
+  of-build,
+  of-action,
+  Item,
+  _is_,
+  causeWords,
+  kindWords,
+  placeItems,
+  figureItems,
+  actionItems,
+  itemBytes,
+  refusedLine,
+  explanation,
+  between,
+  refusesWith,
+  callLine,
+  noSuchCause,
+  wordsOf,
+}
+use Rattle.report_words.specs.declared.Refusal.{Refusal}
+use Rattle.report_words.specs.Lines.{
+  numberFor,
+  letter,
+  filled,
+  pastLines,
+  lines,
+  destroyedPlace,
+  buildPlace,
+  unbuiltPlace,
+  actionPlace,
+  appendPlace,
+  linePlace,
+}
+
+-- ---- a line as one text goes after the other
+
+abbrev itemsThen : List Item → List ℕ → List ℕ
+itemsThen [] t = t
+itemsThen (i ∷ l) t = ascii ", " ++ (ascii (i .word) ++ (32 ∷ (decimal (i .value) ++ itemsThen l t)))
+
+items-then : (l : List Item) (t : List ℕ) → itemBytes l ++ t ≡ itemsThen l t
+unfolding itemBytes
+items-then [] t = refl
+items-then (i ∷ l) t = simp append-assoc (rw (items-then l t))
+
+abbrev begun : ℕ → List Item → List ℕ
+begun n l = ascii "refused " ++ (decimal n ++ (ascii ": " ++ (ascii (causeWords n) ++ itemsThen l (10 ∷ []))))
+
+line-is : (n : ℕ) (l : List Item) → begun n l ≡ refusedLine n l
+line-is n l = sym (simp append-assoc (rw (items-then l (10 ∷ []))))
+
+-- ---- numbers from a on
+
+infixr 20 _and_
+data AllFrom (P : ℕ → Type 0) : ℕ → ℕ → Type 0 where
+  end : {a : ℕ} → AllFrom P a 0
+  _and_ : {a k : ℕ} → P a → AllFrom P (a + 1) k → AllFrom P a (suc k)
+
+ranged : (P : ℕ → Type 0) (a k : ℕ) → AllFrom P a k → (n : ℕ) → a ≤ n → n < a + k → P n
+ranged P a zero all n h l = absurd (omega arith)
+ranged P a (suc k) (p and all) n h l = go (ltb a n) refl (ranged P (a + 1) k all n)
+  where
+    go : (b : Bool) → ltb a n ≡ b → (a + 1 ≤ n → n < a + 1 + k → P n) → P n
+    go true e further = further (omega (arith, ltb-true a n e)) (omega arith)
+    go false e further =
+        let same : a ≡ n = omega (arith, ltb-false a n e) in
+        rw same at p
+
+and-both : (p q : Bool) → (p && q) ≡ true → (p ≡ true) × (q ≡ true)
+and-both true q h = (refl, h)
+and-both false q h = absurd (let z : _≡_ {A = ℕ} 0 1 = cc in omega arith)
+
+bounded : (P : ℕ → Type 0) (a k b n : ℕ) → a + k ≡ b + 1 → AllFrom P a k → between a b n ≡ true → P n
+bounded P a k b n s all h =
+    let both = and-both (leb a n) (leb n b) h in
+    ranged P a k all n (leb-true a n (both .0)) (omega (arith, leb-true n b (both .1)))
+
+outside : (a b m n : ℕ) → between a b m ≡ true → between a b n ≡ false → n ≡ m → ⊥
+outside a b m n p q e =
+    let r : between a b m ≡ false = rw e at q in
+    let z : _≡_ {A = ℕ} 0 1 = cc in
+    omega arith
+
+-- ---- the lines
+
+abbrev pub refusalOf : ℕ → ℕ → ℕ → ℕ → ℕ → ℕ → ℕ → Refusal
+refusalOf call n e f x y z = record { call = call; number = n; e = e; f = f; x = x; y = y; z = z }
+
+abbrev buildItems : ℕ → ℕ → Cause → List Item
+buildItems e f c = placeItems c e f ++ figureItems c
+
+abbrev submitItems : ℕ → ℕ → Cause → List Item
+submitItems e f c = kindWords f is e ∷ actionItems f c
+
+module _ (call e f x y z : ℕ) where
+  -- line p, filled for number n
+  abbrev at : ℕ → ℕ → List ℕ
+  at n p = filled (refusalOf call n e f x y z) (pastLines p lines)
+
+  none : (n : ℕ) → at n 0 ≡ explanation nothing
+  unfolding letter filled pastLines lines digits numberFor explanation
+  none n = refl
+
+  unknown : (n : ℕ) → at n 1 ≡ noSuchCause n
+  unfolding letter filled pastLines lines digits numberFor
+  unknown n = refl
+
+  abbrev Sheet : ℕ → Type 0
+  Sheet n = at n (n + 1) ≡ begun n ("byte" is e ∷ [])
+
+  sheet-lines : AllFrom Sheet 1 5
+  unfolding letter filled pastLines lines digits numberFor
+  sheet-lines = refl and refl and refl and refl and refl and end
+
+  sheet :
+      (n : ℕ)
+      → at n (cond (between 1 5 n) (n + 1) 1) ≡ cond (between 1 5 n) (explanation (of-sheet n e)) (noSuchCause n)
+  unfolding explanation
+  sheet n = go (between 1 5 n) refl
+    where
+      go : (b : Bool) → between 1 5 n ≡ b → at n (cond b (n + 1) 1) ≡ cond b (explanation (of-sheet n e)) (noSuchCause n)
+      go true h = bounded Sheet 1 5 5 n refl sheet-lines h ∙ line-is n ("byte" is e ∷ [])
+      go false h = unknown n
+
+  abbrev Build : ℕ → Type 0
+  Build n = at n (buildPlace n x) ≡ begun n (buildItems e f (cause n x y z))
+
+  destroyed : Build 21
+  unfolding letter filled pastLines lines digits numberFor
+  destroyed = go (eqb x 1) refl (eqb x 2) refl (eqb x 3) refl
+    where
+      go : (a : Bool) → eqb x 1 ≡ a → (b : Bool) → eqb x 2 ≡ b → (c : Bool) → eqb x 3 ≡ c → Build 21
+      go true h b i c k = rw (eqb-true x 1 h)
+      go false h true i c k = rw (eqb-true x 2 i)
+      go false h false i true k = rw (eqb-true x 3 k)
+      go false h false i false k = rw (h, i, k)
+
+  build-first : AllFrom Build 4 3
+  unfolding letter filled pastLines lines digits numberFor
+  build-first = refl and refl and refl and end
+
+  build-others : AllFrom Build 10 30
+  unfolding letter filled pastLines lines digits numberFor
+  build-others =
+      refl and refl and refl and refl and refl and refl and refl and refl and refl and refl and refl and destroyed
+      and refl and refl and refl and refl and refl and refl and refl and refl and refl and refl and refl and refl and refl and refl and refl and refl and refl and refl and end
+
+  build :
+      (n : ℕ)
+      → at n (buildPlace n x)
+      ≡ cond (between 4 6 n || between 10 39 n) (explanation (of-build e f (cause n x y z))) (noSuchCause n)
+  unfolding explanation
+  build n = go (between 4 6 n) refl (between 10 39 n) refl
+    where
+      go :
+          (a : Bool)
+          → between 4 6 n ≡ a
+          → (b : Bool)
+          → between 10 39 n ≡ b
+          → at n (buildPlace n x) ≡ cond (a || b) (explanation (of-build e f (cause n x y z))) (noSuchCause n)
+      go true h b k = bounded Build 4 3 6 n refl build-first h ∙ line-is n (buildItems e f (cause n x y z))
+      go false h true k = bounded Build 10 30 39 n refl build-others k ∙ line-is n (buildItems e f (cause n x y z))
+      go false h false k = rw (h, ne-eqb n 21 (outside 10 39 21 n refl k), k) (unknown n)
+
+  abbrev Submit : ℕ → Type 0
+  Submit n = at n (actionPlace n f) ≡ begun n (submitItems e f (cause n x y z))
+
+  unbuilt :
+      (a b : Bool)
+      → at 42 (cond a 50 (cond b 53 54))
+      ≡ begun 42
+      (kindWords f is e
+      ∷ cond a ("Blas" is x ∷ "Tlas" is y ∷ [])
+      (cond b ("Tlas" is x ∷ "Blas" is y ∷ []) ("Blas or Tlas" is x ∷ "Tlas or Blas" is y ∷ [])))
+  unfolding letter filled pastLines lines digits numberFor
+  unbuilt true b = refl
+  unbuilt false true = refl
+  unbuilt false false = refl
+
+  submit-first : AllFrom Submit 4 3
+  unfolding letter filled pastLines lines digits numberFor
+  submit-first = refl and refl and refl and end
+
+  submit-destroyed : Submit 21
+  unfolding letter filled pastLines lines digits numberFor
+  submit-destroyed = refl
+
+  submit-others : AllFrom Submit 39 6
+  unfolding letter filled pastLines lines digits numberFor
+  submit-others = refl and refl and refl and unbuilt (eqb f 1) (eqb f 2) and refl and refl and end
+
+  submit :
+      (n : ℕ)
+      → at n (actionPlace n f)
+      ≡ cond (between 4 6 n || (eqb n 21 || between 39 44 n)) (explanation (of-action e f (cause n x y z))) (noSuchCause n)
+  unfolding explanation
+  submit n = go (between 4 6 n) refl (eqb n 21) refl (between 39 44 n) refl
+    where
+      go :
+          (a : Bool)
+          → between 4 6 n ≡ a
+          → (b : Bool)
+          → eqb n 21 ≡ b
+          → (c : Bool)
+          → between 39 44 n ≡ c
+          → at n (actionPlace n f) ≡ cond (a || (b || c)) (explanation (of-action e f (cause n x y z))) (noSuchCause n)
+      go true h b i c k = bounded Submit 4 3 6 n refl submit-first h ∙ line-is n (submitItems e f (cause n x y z))
+      go false h true i c k = rw (eqb-true n 21 i) (submit-destroyed ∙ line-is 21 (submitItems e f (cause 21 x y z)))
+      go false h false i true k = bounded Submit 39 6 44 n refl submit-others k ∙ line-is n (submitItems e f (cause n x y z))
+      go false h false i false k = rw (h, ne-eqb n 42 (outside 39 44 42 n refl k), k, i) (unknown n)
+
+  abbrev Append : ℕ → Type 0
+  Append n = at n (appendPlace n) ≡ begun n []
+
+  append-lines : AllFrom Append 34 2
+  unfolding letter filled pastLines lines digits numberFor
+  append-lines = refl and refl and end
+
+  append-6 : Append 6
+  unfolding letter filled pastLines lines digits numberFor
+  append-6 = refl
+
+  append-39 : Append 39
+  unfolding letter filled pastLines lines digits numberFor
+  append-39 = refl
+
+  append :
+      (n : ℕ)
+      → at n (appendPlace n) ≡ cond (eqb n 6 || (between 34 35 n || eqb n 39)) (refusedLine n []) (noSuchCause n)
+  append n = go (eqb n 6) refl (between 34 35 n) refl (eqb n 39) refl
+    where
+      go :
+          (a : Bool)
+          → eqb n 6 ≡ a
+          → (b : Bool)
+          → between 34 35 n ≡ b
+          → (c : Bool)
+          → eqb n 39 ≡ c
+          → at n (appendPlace n) ≡ cond (a || (b || c)) (refusedLine n []) (noSuchCause n)
+      go true h b i c k = rw (eqb-true n 6 h) (append-6 ∙ line-is 6 [])
+      go false h true i c k = bounded Append 34 2 35 n refl append-lines i ∙ line-is n []
+      go false h false i true k = rw (eqb-true n 39 k) (append-39 ∙ line-is 39 [])
+      go false h false i false k = rw (i, h, k) (unknown n)
+
+  -- ---- the table by call
+
+  pub words-are : (n : ℕ) → at n (linePlace call n f x) ≡ wordsOf call n e f x y z
+  unfolding wordsOf
+  words-are n = some (eqb n 0) _ _ (each (eqb call 1) (eqb call 2) (eqb call 3) (eqb call 4))
+    where
+      each :
+          (a b c d : Bool)
+          → at n
+          (cond a (cond (between 1 5 n) (n + 1) 1)
+          (cond b (buildPlace n x) (cond c (actionPlace n f) (cond d (appendPlace n) 1))))
+          ≡ cond
+          (cond a (between 1 5 n)
+          (cond b (between 4 6 n || between 10 39 n)
+          (cond c (between 4 6 n || (eqb n 21 || between 39 44 n))
+          (cond d (eqb n 6 || (between 34 35 n || eqb n 39)) false))))
+          (cond a (explanation (of-sheet n e))
+          (cond b (explanation (of-build e f (cause n x y z)))
+          (cond c (explanation (of-action e f (cause n x y z))) (refusedLine n []))))
+          (noSuchCause n)
+      each true b c d = sheet n
+      each false true c d = build n
+      each false false true d = submit n
+      each false false false true = append n
+      each false false false false = unknown n
+
+      some : (b : Bool) (p : ℕ) (t : List ℕ) → at n p ≡ t → at n (cond b 0 p) ≡ cond b (explanation nothing) t
+      some true p t h = none n
+      some false p t h = h
