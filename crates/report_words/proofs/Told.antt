@@ -9,6 +9,7 @@ use Rattle.ray_tracing.specs.declared.BuildAccelerationStructureError.the-varia
 use Rattle.ray_tracing.specs.declared.ValidateAsActionsError.{ValidateAsActionsError}
 use Rattle.ray_tracing.specs.declared.ValidateAsActionsError.the-variants as submission
 use Rattle.ray_tracing.specs.Causes.{sheetNumber, buildCause, submissionCause}
+use Rattle.causes.specs.Figures.{plainly}
 use Rattle.ray_tracing.specs.Explain.{nothing, of-sheet, of-build, of-action, wordsOf}
 use Rattle.report_words.specs.declared.Refusal.{Refusal}
 use Rattle.report_words.specs.Told.{refusedBy, toldOf, Tells}
@@ -65,7 +66,7 @@ build-told build.OutputTooShort e g = record { numbers = refl; words = refl }
 
 pub action-told :
     (error : ValidateAsActionsError) (i kind : ℕ)
-    → Tells (refusedBy 3 i kind (submissionCause error)) (of-action i kind (submissionCause error))
+    → Tells (refusedBy 3 i kind (plainly (submissionCause error))) (of-action i kind (submissionCause error))
 unfolding wordsOf
 action-told submission.TooMany i kind = record { numbers = refl; words = refl }
 action-told submission.InvalidValue i kind = record { numbers = refl; words = refl }
