@@ -528,7 +528,8 @@ def test_words_agree():
 def recorded():
     """Every sheet that is recorded in the crates' cases, and those that are shipped."""
     out = {f.read_bytes() for f in SHEETS.glob("*.sheet")} | set(reads.cases()) | set(reports.cases())
-    data, at = (root / "crates/replay/stdin").read_bytes(), 0
+    (replayed,) = (root / "crates").glob("*replay*/stdin")
+    data, at = replayed.read_bytes(), 0
     while struct.unpack_from("<I", data, at)[0] == 1:
         n = struct.unpack_from("<I", data, at + 4)[0]
         out.add(data[at + 8 : at + 8 + n])
