@@ -9,6 +9,7 @@ from walk import SINGLE, Walked, is_used, named, spoken
 BY_ONE = {s.one: s for s in SECTIONS}
 FIELDS = {(s.number, f.name): f for s in SECTIONS for f in s.fields}
 WIDTH = 120
+DIGITS = re.compile("[0-9]+")
 IDENTITY = (1.0, 0.0, 0.0, 0.0, 0.0, 1.0, 0.0, 0.0, 0.0, 0.0, 1.0, 0.0)
 
 
@@ -207,7 +208,7 @@ def statements(text):
 
 
 def number_of(f, word):
-    if word.isascii() and word.isdigit():
+    if DIGITS.fullmatch(word):
         return int(word)
     names = {name.lower(): n for n, name in f.values.items()}
     if f.none and word.lower() == "none":

@@ -61,19 +61,20 @@ class Verdict:
         before = sum(r.values[name] for r in self.walked.tables[number - 1].records[:i])
         return (number + 1, before + int(found[4]), "")
 
+    def is_of_field(self):
+        """Whether a field that can be shown is refused: 2 is of one that is not whole, 3 of none, 4 of a count."""
+        section, record, name = self.place
+        return self.number in (1, 5, 6) and name != "" and (record >= 0 or section == 0)
+
     def mark_of(self, section, record, name):
-        """What is refused of a field, where it is that one; what a mark has in the words' place is not repeated."""
-        if self.number == 0 or not name or self.place != (section, record, name):
+        """What is refused of this field, if it is."""
+        if self.number == 0 or not self.is_of_field() or self.place != (section, record, name):
             return ""
         return f"{self.number}: {CAUSES[self.number].words}, {self.named}"
 
     def marks_of(self, section, record):
-        """What is refused of a record as a whole, or of a section's count."""
-        if self.number and self.place[:2] == (section, record):
-            if self.place[2] and record >= 0 and self.number != 2:
-                return
-            if section == 0 and self.place[2] and self.number != 2:
-                return
+        """What is refused of this record as a whole, or with record -1 of this section's count or the sheet, if it is."""
+        if self.number and not self.is_of_field() and self.place[:2] == (section, record):
             yield f"{self.number}: {self.named or self.words.partition(': ')[2]}"
 
     def named_ids(self):

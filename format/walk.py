@@ -4,7 +4,6 @@ The walk goes on past a value outside its field, a count above its limit and cou
 that all of a refused sheet can be looked at; it stops at a version that is not 1 and where the bytes end.
 """
 import struct
-from dataclasses import dataclass, field
 from typing import NamedTuple
 
 from layout import COUNT_WIDTH, HEAD, LIMITS, NONE, SECTIONS, VERSION, section, single
@@ -24,12 +23,11 @@ class Refusal(NamedTuple):
     why: str = ""
 
 
-@dataclass
 class Record:
-    place: int
-    boxes: bool
-    values: dict = field(default_factory=dict)  # by name; of a sheet that ends early only the fields that are whole
-    unused: set = field(default_factory=set)  # names of fields that are ignored
+    def __init__(self, place, boxes):
+        self.place, self.boxes = place, boxes
+        self.values = {}  # by name; of a sheet that ends early only the fields that are whole
+        self.unused = set()  # names of fields that are ignored
 
 
 class Table(NamedTuple):
