@@ -35,7 +35,7 @@ from walk import Walked  # noqa: E402
 
 PROGRAM = pathlib.Path(sys.argv[1] if len(sys.argv) > 1 else root / "target/bin/zakvind").resolve()
 SHEETS = root / "sheets"
-room = pathlib.Path(tempfile.mkdtemp(prefix="edges."))
+room = box = None  # the folder of a run, and in it a copy of the checkout whose program is proved
 
 RT = """#!/bin/bash
 # stands in for rt, in the folder that it is called in
@@ -777,8 +777,6 @@ def test_pictures():
 
 def main():
     global box
-    if not PROGRAM.is_file():
-        sys.exit(f"edges: {PROGRAM} is not there: rt check zakvind makes it")
     began = time.monotonic()
     room.chmod(0o755)
     stand_in(room / "rt")
@@ -797,6 +795,9 @@ def main():
 
 
 if __name__ == "__main__":
+    if not PROGRAM.is_file():
+        sys.exit(f"edges: {PROGRAM} is not there: rt check zakvind makes it")
+    room = pathlib.Path(tempfile.mkdtemp(prefix="edges."))
     try:
         status = main()
     finally:
