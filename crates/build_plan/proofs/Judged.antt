@@ -16,7 +16,8 @@ use Rattle.ray_tracing.specs.Plan.{Tables, passed, recordsIn, entryOf, geometry
 use Rattle.ray_tracing.proofs.Verdicts.{or-passed, none-atE, none-cond, each-passed, each-drawing}
 use Rattle.ray_tracing.proofs.Inside.{Inside, drawnBefore, drawn-none, drawn-more, slotsBefore, slots-none, slots-more}
 use Rattle.ray_tracing.specs.Parts.{ofEntries, ofPackages}
-use Rattle.build_plan.specs.Parts.{packageList, AllWritable, Drawn}
+use Rattle.build_lists.specs.Lists.{packageList, Drawn}
+use Rattle.build_plan.specs.Parts.{AllWritable}
 use Rattle.build_ranges.specs.Ranges.{geometryRanges, entryRanges, allRanges, AllFit, DrawnFit}
 use Rattle.build_plan.specs.Planned.{planned, Plannable}
 use Rattle.build_plan.proofs.Asked.{asked-is, asked-fits}

@@ -1,12 +1,12 @@
--- `build_plan::write_dependencies` meets its contract. The invariant: what is left, written from here on, is the whole.
+-- `build_lists::write_dependencies` meets its contract. The invariant: what is left, written from here on, is the whole.
 use native.Mathlib.Nat.{add-sub-cancel-left}
 use Prim.Native.Nat.{_+_, _-_, _≤_}
 use Rattle.build_ranges.proofs.Appending.{Left, starts, room, turn, ended, done}
 use Rattle.ray_tracing.specs.Plan.{dependenciesFrom}
-use Rattle.build_plan.proofs.Laws.{dependencies-more, dependencies-none}
+use Rattle.build_lists.proofs.Laws.{dependencies-more, dependencies-none}
 use borrow.Author.Needs.{needs}
-use Rattle.build_plan.proofs.write_dependencies.Statement.{statement}
-use Rattle.build_plan.proofs.write_dependencies.Tie as tie
+use Rattle.build_lists.proofs.write_dependencies.Statement.{statement}
+use Rattle.build_lists.proofs.write_dependencies.Tie as tie
 
 abbrev Inv-loop : tie.InvT-loop
 Inv-loop slots first count out₀ at end₀ s₀ out end s =

@@ -1,12 +1,12 @@
--- `build_plan::put_dependency` meets its contract: one cell if the slot is present, else none.
+-- `build_lists::put_dependency` meets its contract: one cell if the slot is present, else none.
 use native.Mathlib.Omega.{arith}
 use mathlib.Core.Path.{sym, ap, _∙_}
 use lib.ListN.{length, set}
 use lib.Seq.{sets}
-use Rattle.build_plan.proofs.Laws.{dependency-none, dependency-some}
+use Rattle.build_lists.proofs.Laws.{dependency-none, dependency-some}
 use borrow.Author.Needs.{needs}
-use Rattle.build_plan.proofs.put_dependency.Statement.{statement}
-use Rattle.build_plan.proofs.put_dependency.Tie as tie
+use Rattle.build_lists.proofs.put_dependency.Statement.{statement}
+use Rattle.build_lists.proofs.put_dependency.Tie as tie
 
 returns : tie.Need-returns
 returns c = let e = dependency-none _ _ (c .before .u8-at .ensures) (c .if1 .taken) in (omega (arith, ap length e), ap (sets (c .before .before .before .before .args .out .now) (c .before .before .before .before .args .at)) (sym e))

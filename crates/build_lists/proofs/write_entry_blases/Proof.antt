@@ -1,4 +1,4 @@
--- `build_plan::write_entry_blases` meets its contract. The invariant: what is left, written from here on, is the whole.
+-- `build_lists::write_entry_blases` meets its contract. The invariant: what is left, written from here on, is the whole.
 use lib.ListN.{set}
 use Rattle.ray_tracing.specs.declared.BlasBuildEntry.{BlasBuildEntry}
 use native.Mathlib.Nat.{sub-zero}
@@ -8,10 +8,10 @@ use Prim.Native.Nat.{_-_}
 use Rattle.build_ranges.proofs.Appending.{Left, starts, turn, done}
 use Rattle.ray_tracing.specs.Plan.{entryBlases}
 use Rattle.ray_tracing.specs.Parts.{entriesIn, ofEntries}
-use Rattle.build_plan.proofs.Laws.{blases-more, blases-none}
+use Rattle.build_lists.proofs.Laws.{blases-more, blases-none}
 use borrow.Author.Needs.{needs}
-use Rattle.build_plan.proofs.write_entry_blases.Statement.{statement}
-use Rattle.build_plan.proofs.write_entry_blases.Tie as tie
+use Rattle.build_lists.proofs.write_entry_blases.Statement.{statement}
+use Rattle.build_lists.proofs.write_entry_blases.Tie as tie
 
 abbrev Inv-loop : tie.InvT-loop
 Inv-loop entries out₀ i₀ out i =
