@@ -222,7 +222,7 @@ checkedAt x i j g =
     (bufferOf (x .buffers) (geometryOf x g .buffer .0)))
 
 abbrev pub checkedE : ℕ → ℕ → checks.Checked → Verdict
-checkedE i j (checks.asks l) = passed
+checkedE i j (checks.asks r) = passed
 checkedE i j (checks.refused c) = refused i j c
 
 abbrev pub judgeEntry : Tables → ℕ → ℕ → Verdict
@@ -328,9 +328,9 @@ stagingFrom x start p s (suc n) =
     ∷ (start + 64 * presentOf (x .slots) s (slotCount x p))
     ∷ stagingFrom x (start + 64 * presentOf (x .slots) s (slotCount x p)) (p + 1) (s + slotCount x p) n
 
--- the initialisation ranges as asked for: by the n geometries of entry i from the j-th on, and by n entries from i on
+-- the initialisation ranges as asked for, data, index, transform: by the n geometries of entry i from the j-th on, and by n entries from i on
 abbrev pub asked : checks.Checked → List ℕ
-asked (checks.asks l) = l
+asked (checks.asks r) = r .ofData ++ (r .ofIndices ++ r .ofTransform)
 asked (checks.refused c) = []
 
 unfoldable pub rangesOfEntry : Tables → ℕ → ℕ → ℕ → ℕ → List ℕ
