@@ -18,7 +18,7 @@ ghost use Rattle.ray_tracing.specs.Checks.{_then_};
 ghost use Rattle.ray_tracing.specs.Code.{checkedOf, bufferGiven};
 ghost use Rattle.ray_tracing.specs.Triangles.{verticesRule, indexRegionRule, indicesRule, transformRule};
 ghost use Rattle.ray_tracing.specs.Triangles.{indexWidth, indexPart, transformPart};
-ghost use Rattle.build_buffers.specs.Parts.{verticesOf, partOf};
+ghost use Rattle.build_buffers.specs.Parts.{verticesOf, indexPartOf, transformPartOf};
 
 const LIMIT: u64 = 4294967295;
 
@@ -82,7 +82,7 @@ fn judge_vertices(
 
 // The indices: 24, 21, 22, 25, then their region.
 fn check_indices(g: BlasGeometry, index: Buffer) -> Part
-    ensures { λ r. ⌜ partOf r ≡ indicesRule g (indexWidth (g .«index_format»)) index ⌝ }
+    ensures { λ r. ⌜ indexPartOf r ≡ indicesRule g (indexWidth (g .«index_format»)) index ⌝ }
 {
     let buffer = g.index_buffer;
     if g.first_index_present == 0 {
@@ -105,7 +105,7 @@ fn check_indices(g: BlasGeometry, index: Buffer) -> Part
 
 // 26, 26, 27, 23.
 fn check_index_region(g: BlasGeometry, index: Buffer) -> Part
-    ensures { λ r. ⌜ partOf r ≡ indexRegionRule g (indexWidth (g .«index_format»)) index ⌝ }
+    ensures { λ r. ⌜ indexPartOf r ≡ indexRegionRule g (indexWidth (g .«index_format»)) index ⌝ }
 {
     let width = index_width(g.index_format);
     judge_index_region(g, width, index)
@@ -113,7 +113,7 @@ fn check_index_region(g: BlasGeometry, index: Buffer) -> Part
 
 fn judge_index_region(g: BlasGeometry, width: u64, index: Buffer) -> Part
     requires { ⌜ width ≤ 4 ⌝ }
-    ensures { λ r. ⌜ partOf r ≡ indexRegionRule g width index ⌝ }
+    ensures { λ r. ⌜ indexPartOf r ≡ indexRegionRule g width index ⌝ }
 {
     let start = g.first_index as u64 * width;
     let region = g.index_count as u64 * width;
@@ -148,7 +148,7 @@ fn judge_index_region(g: BlasGeometry, width: u64, index: Buffer) -> Part
 
 // The transform: 28, 24, 21, 22, 26, 29, 23.
 fn check_transform(flags: u8, g: BlasGeometry, transform: Buffer) -> Part
-    ensures { λ r. ⌜ partOf r ≡ transformRule flags g transform ⌝ }
+    ensures { λ r. ⌜ transformPartOf r ≡ transformRule flags g transform ⌝ }
 {
     let buffer = g.transform_buffer;
     let offset = g.transform_buffer_offset;
@@ -188,7 +188,7 @@ fn check_transform(flags: u8, g: BlasGeometry, transform: Buffer) -> Part
 
 // With an index buffer, its checks.
 fn index_part(g: BlasGeometry, index: GivenBuffer) -> Part
-    ensures { λ r. ⌜ partOf r ≡ indexPart g (bufferGiven index) ⌝ }
+    ensures { λ r. ⌜ indexPartOf r ≡ indexPart g (bufferGiven index) ⌝ }
 {
     match index {
         GivenBuffer::Absent => Part::Fine(Asked::Nothing),
@@ -198,7 +198,7 @@ fn index_part(g: BlasGeometry, index: GivenBuffer) -> Part
 
 // With a transform buffer, its checks; without, 30.
 fn transform_part(flags: u8, g: BlasGeometry, transform: GivenBuffer) -> Part
-    ensures { λ r. ⌜ partOf r ≡ transformPart flags g (bufferGiven transform) ⌝ }
+    ensures { λ r. ⌜ transformPartOf r ≡ transformPart flags g (bufferGiven transform) ⌝ }
 {
     match transform {
         GivenBuffer::Absent => {
@@ -213,7 +213,7 @@ fn transform_part(flags: u8, g: BlasGeometry, transform: GivenBuffer) -> Part
 
 // The first refusal of the three buffers, or their ranges.
 fn buffers_of(v: Vertices, i: Part, t: Part) -> CheckedGeometry
-    ensures { λ r. ⌜ checkedOf r ≡ (verticesOf v then partOf i then partOf t) ⌝ }
+    ensures { λ r. ⌜ checkedOf r ≡ (verticesOf v then indexPartOf i then transformPartOf t) ⌝ }
 {
     match v {
         Vertices::Refused(e) => CheckedGeometry::Refused(e),
