@@ -1,9 +1,12 @@
 // A Build as an action: judged, then all its Blases, then its Tlases in turn.
+use ray_tracing::BLAS_SIZE;
 use ray_tracing::BlasId;
 use ray_tracing::Submitted;
+use ray_tracing::TLAS_ROOM;
+use ray_tracing::TLAS_SIZE;
 use ray_tracing::TlasId;
 use ray_tracing::ValidateAsActionsError;
-use submit_build_checks::judge_build;
+use submit_build_checks::judge_build_action;
 use submit_checks::Checked;
 use submit_checks::blas_of;
 use submit_checks::submitted;
@@ -16,8 +19,9 @@ ghost use mathlib.Core.List.{[], _∷_};
 ghost use Prim.Native.Nat.{_+_, _^_, _≤_, _<_};
 ghost use lib.ListN.{length};
 ghost use lib.Seq.{sets};
-ghost use Rattle.ray_tracing.specs.Submission.{first, judge, packagesAt, packagesLent, buildAt, later, before, builtBlas, builtBlases, builtTlas, unnumbered, buildTlases, act, step, build, outcomeOf, lentOf};
-ghost use Rattle.submit_checks.specs.Outcome.{blasesOf, packageWith, stepped, causeOf, actedOf};
+ghost use Rattle.ray_tracing.specs.Submission.{first, judge, packagesAt, packagesLent, buildAt, before, act};
+ghost use Rattle.ray_tracing.specs.Submission.{builtBlas, builtBlases, builtTlas, unnumbered, lentOf, lentWith, buffersOf};
+ghost use Rattle.submit_checks.specs.Outcome.{blasesOf, packageWith, stepped, causeOf, actedOf, BuildsTlases, Acts};
 ghost use Rattle.submit_checks.specs.Known.{blasesIn, tlasesIn, Inside, ListRoom, Listed, AllListed};
 
 // A Blas that a Build built.
@@ -25,7 +29,7 @@ fn mark_blas(blases: &mut [u8], id: BlasId, number: u64)
     requires { ⌜ id .0 < blasesIn (now blases) ⌝ }
     ensures { λ _. ⌜ now (blases .exit) ≡ builtBlas number (id .0) (now (blases .entry)) ⌝ }
 {
-    let at = id.0 as usize * 28;
+    let at = id.0 as usize * BLAS_SIZE;
     put_u8(blases, at + 2, 0);
     put_u64(blases, at + 20, number);
 }
@@ -45,7 +49,7 @@ fn mark_tlas(tlases: &mut [u8], id: TlasId, number: u64)
     requires { ⌜ id .0 < tlasesIn (now tlases) ⌝ }
     ensures { λ _. ⌜ now (tlases .exit) ≡ builtTlas number (id .0) (now (tlases .entry)) ⌝ }
 {
-    let at = id.0 as usize * 22;
+    let at = id.0 as usize * TLAS_SIZE;
     put_u64(tlases, at + 14, number);
 }
 
@@ -90,8 +94,12 @@ fn build_tlas(
 ) -> Checked
     requires { ⌜ Listed (blasesIn (now blases)) (tlasesIn (now tlases)) (packageWith (tlas .0) (now ids)) ⌝ }
     requires { ⌜ ListRoom (tlasesIn (now tlases)) (now «dependency_counts») (now dependencies) ⌝ }
-    ensures { λ r. ⌜ actedOf r (lentOf (stepped number) (now (blases .entry)) (now (tlases .exit)) (now («dependency_counts» .exit)) (now (dependencies .exit)))
-        ≡ buildTlases number (packageWith (tlas .0) (now (ids .entry)) ∷ []) (lentOf (stepped number) (now (blases .entry)) (now (tlases .entry)) (now («dependency_counts» .entry)) (now (dependencies .entry))) ⌝ }
+    ensures { λ r. ⌜ BuildsTlases
+        number
+        (buffersOf (now (blases .entry)) (now (tlases .entry)) (now («dependency_counts» .entry)) (now (dependencies .entry)))
+        (packageWith (tlas .0) (now (ids .entry)) ∷ [])
+        r
+        (buffersOf (now (blases .entry)) (now (tlases .exit)) (now («dependency_counts» .exit)) (now (dependencies .exit))) ⌝ }
 {
     let checked = judge_numbers(blases, tlas, ids);
     if let Checked::Refused(_) = checked {
@@ -100,7 +108,7 @@ fn build_tlas(
     mark_tlas(tlases, tlas, number);
     let t = tlas.0 as usize;
     dependency_counts[t] = ids.len() as u16;
-    put_list(dependencies, t * 512, ids);
+    put_list(dependencies, t * TLAS_ROOM, ids);
     Checked::Fine
 }
 
@@ -118,8 +126,12 @@ fn build_tlases(
     requires { ⌜ packagesLent (now lists) start «tlas_count» ≡ true ⌝ }
     requires { ⌜ AllListed (blasesIn (now blases)) (tlasesIn (now tlases)) (packagesAt (now lists) start «tlas_count») ⌝ }
     requires { ⌜ ListRoom (tlasesIn (now tlases)) (now «dependency_counts») (now dependencies) ⌝ }
-    ensures { λ r. ⌜ actedOf r (lentOf (stepped number) (now (blases .entry)) (now (tlases .exit)) (now («dependency_counts» .exit)) (now (dependencies .exit)))
-        ≡ buildTlases number (packagesAt (now (lists .entry)) start «tlas_count») (lentOf (stepped number) (now (blases .entry)) (now (tlases .entry)) (now («dependency_counts» .entry)) (now (dependencies .entry))) ⌝ }
+    ensures { λ r. ⌜ BuildsTlases
+        number
+        (buffersOf (now (blases .entry)) (now (tlases .entry)) (now («dependency_counts» .entry)) (now (dependencies .entry)))
+        (packagesAt (now (lists .entry)) start «tlas_count»)
+        r
+        (buffersOf (now (blases .entry)) (now (tlases .exit)) (now («dependency_counts» .exit)) (now (dependencies .exit))) ⌝ }
 {
     let mut left = tlas_count;
     let mut at = start;
@@ -157,10 +169,14 @@ fn build(
     blas_count: usize,
     tlas_count: usize,
 ) -> Checked
-    requires { ⌜ before (lentOf number (now blases) (now tlases) [] []) (buildAt (now lists) start «blas_count» «tlas_count») ≡ none ⌝ }
+    requires { ⌜ before (lentOf number (now blases) (now tlases) [] []) (buildAt (now lists) start «blas_count» «tlas_count»)
+        ≡ none ⌝ }
     requires { ⌜ ListRoom (tlasesIn (now tlases)) (now «dependency_counts») (now dependencies) ⌝ }
-    ensures { λ r. ⌜ actedOf r (lentOf (stepped number) (now (blases .exit)) (now (tlases .exit)) (now («dependency_counts» .exit)) (now (dependencies .exit)))
-        ≡ act (lentOf number (now (blases .entry)) (now (tlases .entry)) (now («dependency_counts» .entry)) (now (dependencies .entry))) (buildAt (now (lists .entry)) start «blas_count» «tlas_count») ⌝ }
+    ensures { λ r. ⌜ actedOf r (lentWith (stepped number)
+        (buffersOf (now (blases .exit)) (now (tlases .exit)) (now («dependency_counts» .exit)) (now (dependencies .exit))))
+        ≡ act (lentWith number
+        (buffersOf (now (blases .entry)) (now (tlases .entry)) (now («dependency_counts» .entry)) (now (dependencies .entry))))
+        (buildAt (now (lists .entry)) start «blas_count» «tlas_count») ⌝ }
 {
     let mid = start + blas_count;
     mark_blases(blases, &lists[start..mid], number);
@@ -191,10 +207,15 @@ pub fn build_action(
 ) -> Submitted
     requires { ⌜ start + «blas_count» < 2 ^ 64 ⌝ }
     requires { ⌜ judge (lentOf counter (now blases) (now tlases) (now «dependency_counts») (now dependencies)) ≡ none ⌝ }
-    ensures { λ r. ⌜ outcomeOf r (now (blases .exit)) (now (tlases .exit)) (now («dependency_counts» .exit)) (now (dependencies .exit))
-        ≡ later index (step (lentOf counter (now (blases .entry)) (now (tlases .entry)) (now («dependency_counts» .entry)) (now (dependencies .entry))) (buildAt (now (lists .entry)) start «blas_count» «tlas_count»)) ⌝ }
+    ensures { λ r. ⌜ Acts
+        counter
+        (buffersOf (now (blases .entry)) (now (tlases .entry)) (now («dependency_counts» .entry)) (now (dependencies .entry)))
+        index
+        (buildAt (now (lists .entry)) start «blas_count» «tlas_count»)
+        r
+        (buffersOf (now (blases .exit)) (now (tlases .exit)) (now («dependency_counts» .exit)) (now (dependencies .exit))) ⌝ }
 {
-    let checked = judge_build(
+    let checked = judge_build_action(
         counter,
         &blases[..],
         &tlases[..],

@@ -1,5 +1,7 @@
 // What is judged before a Build acts: 5 of its lists, then 4, 6, 40, 41.
 use ray_tracing::BlasId;
+use ray_tracing::TLAS_ROOM;
+use ray_tracing::TlasId;
 use ray_tracing::ValidateAsActionsError;
 use submit_checks::Checked;
 use submit_checks::blas_of;
@@ -10,9 +12,15 @@ ghost use mathlib.Core.Bool.{true};
 ghost use mathlib.Core.List.{[]};
 ghost use Prim.Native.Nat.{_+_, _^_, _≤_, _<_};
 ghost use lib.ListN.{length};
-ghost use Rattle.ray_tracing.specs.Submission.{first, _orElse_, mentionBlas, packageFrom, pastPackage, packagesAt, packagesLent, buildAt, tooMany, mentionPackage, compacted, before, build, lentOf};
+ghost use Rattle.ray_tracing.specs.Submission.{first, _orElse_, mentionBlas, mentionPackage, tooMany, compacted, before, lentOf};
+ghost use Rattle.ray_tracing.specs.Submission.{packageFrom, pastPackage, packagesAt, packagesLent, build, buildAt};
 ghost use Rattle.submit_checks.specs.Outcome.{tablesOnly, blasesOf, causeOf};
 ghost use Rattle.submit_checks.specs.Known.{blasesIn, Inside};
+
+// The most that a Build lists.
+const MOST_BLASES: usize = 64;
+
+const MOST_TLASES: usize = 32;
 
 // Whether the lists of a Build's Tlases, from a cell on, are lent whole.
 fn packages_lent(lists: &[u16], start: usize, tlas_count: usize) -> bool
@@ -40,14 +48,14 @@ fn judge_counts(lists: &[u16], start: usize, tlas_count: usize) -> Checked
     requires { ⌜ packagesLent (now lists) start «tlas_count» ≡ true ⌝ }
     ensures { λ r. ⌜ causeOf r ≡ tooMany [] (packagesAt (now (lists .entry)) start «tlas_count») ⌝ }
 {
-    if 32 < tlas_count {
+    if MOST_TLASES < tlas_count {
         return Checked::Refused(ValidateAsActionsError::TooMany);
     }
     let mut left = tlas_count;
     let mut at = start;
     while 0 < left {
         let count = lists[at + 1] as usize;
-        if 512 < count {
+        if TLAS_ROOM < count {
             return Checked::Refused(ValidateAsActionsError::TooMany);
         }
         at = at + 2 + count;
@@ -59,9 +67,10 @@ fn judge_counts(lists: &[u16], start: usize, tlas_count: usize) -> Checked
 // 6 of one Tlas and its list.
 fn judge_package(blases: &[u8], tlases: &[u8], lists: &[u16], at: usize) -> Checked
     requires { ⌜ pastPackage (now lists) at ≤ length (now lists) ⌝ }
-    ensures { λ r. ⌜ causeOf r ≡ mentionPackage (tablesOnly (now (blases .entry)) (now (tlases .entry))) (packageFrom (now (lists .entry)) at) ⌝ }
+    ensures { λ r. ⌜ causeOf r
+        ≡ mentionPackage (tablesOnly (now (blases .entry)) (now (tlases .entry))) (packageFrom (now (lists .entry)) at) ⌝ }
 {
-    let checked = judge_tlas(tlases, lists[at] as usize);
+    let checked = judge_tlas(tlases, TlasId(lists[at]));
     if let Checked::Refused(_) = checked {
         return checked;
     }
@@ -78,7 +87,9 @@ fn judge_packages(
     tlas_count: usize,
 ) -> Checked
     requires { ⌜ packagesLent (now lists) start «tlas_count» ≡ true ⌝ }
-    ensures { λ r. ⌜ causeOf r ≡ first (mentionPackage (tablesOnly (now (blases .entry)) (now (tlases .entry)))) (packagesAt (now (lists .entry)) start «tlas_count») ⌝ }
+    ensures { λ r. ⌜ causeOf r
+        ≡ first (mentionPackage (tablesOnly (now (blases .entry)) (now (tlases .entry))))
+        (packagesAt (now (lists .entry)) start «tlas_count») ⌝ }
 {
     let mut left = tlas_count;
     let mut at = start;
@@ -120,7 +131,10 @@ fn judge_mentions(
     tlas_count: usize,
 ) -> Checked
     requires { ⌜ packagesLent (now lists) at «tlas_count» ≡ true ⌝ }
-    ensures { λ r. ⌜ causeOf r ≡ (first (mentionBlas (blasesOf (now (blases .entry)))) (now (ids .entry)) orElse first (mentionPackage (tablesOnly (now (blases .entry)) (now (tlases .entry)))) (packagesAt (now (lists .entry)) at «tlas_count»)) ⌝ }
+    ensures { λ r. ⌜ causeOf r
+        ≡ (first (mentionBlas (blasesOf (now (blases .entry)))) (now (ids .entry))
+        orElse first (mentionPackage (tablesOnly (now (blases .entry)) (now (tlases .entry))))
+        (packagesAt (now (lists .entry)) at «tlas_count»)) ⌝ }
 {
     let checked = judge_ids(blases, ids);
     if let Checked::Refused(_) = checked {
@@ -140,9 +154,11 @@ fn judge_whole_build(
     tlas_count: usize,
 ) -> Checked
     requires { ⌜ packagesLent (now lists) at «tlas_count» ≡ true ⌝ }
-    ensures { λ r. ⌜ causeOf r ≡ before (lentOf counter (now (blases .entry)) (now (tlases .entry)) [] []) (build (now (ids .entry)) (packagesAt (now (lists .entry)) at «tlas_count»)) ⌝ }
+    ensures { λ r. ⌜ causeOf r
+        ≡ before (lentOf counter (now (blases .entry)) (now (tlases .entry)) [] [])
+        (build (now (ids .entry)) (packagesAt (now (lists .entry)) at «tlas_count»)) ⌝ }
 {
-    if 64 < ids.len() {
+    if MOST_BLASES < ids.len() {
         return Checked::Refused(ValidateAsActionsError::TooMany);
     }
     let counted = judge_counts(lists, at, tlas_count);
@@ -160,7 +176,7 @@ fn judge_whole_build(
 }
 
 // What is judged before a Build acts.
-pub fn judge_build(
+pub fn judge_build_action(
     counter: u64,
     blases: &[u8],
     tlases: &[u8],
@@ -170,7 +186,9 @@ pub fn judge_build(
     tlas_count: usize,
 ) -> Checked
     requires { ⌜ start + «blas_count» < 2 ^ 64 ⌝ }
-    ensures { λ r. ⌜ causeOf r ≡ before (lentOf counter (now (blases .entry)) (now (tlases .entry)) [] []) (buildAt (now (lists .entry)) start «blas_count» «tlas_count») ⌝ }
+    ensures { λ r. ⌜ causeOf r
+        ≡ before (lentOf counter (now (blases .entry)) (now (tlases .entry)) [] [])
+        (buildAt (now (lists .entry)) start «blas_count» «tlas_count») ⌝ }
 {
     let mid = start + blas_count;
     if lists.len() < mid {

@@ -1,8 +1,10 @@
 // What the actions of a submission are judged by over lent tables, and what one of them comes to.
+use ray_tracing::BLAS_SIZE;
 use ray_tracing::Blas;
 use ray_tracing::BlasId;
 use ray_tracing::Mentioned;
 use ray_tracing::Submitted;
+use ray_tracing::TlasId;
 use ray_tracing::ValidateAsActionsError;
 use records::blas_at;
 use records::blas_mention;
@@ -21,19 +23,19 @@ pub enum Checked {
 }
 
 // A mention of an id, judged.
-pub fn judge_blas(blases: &[u8], id: usize) -> Checked
-    ensures { λ r. ⌜ causeOf r ≡ mentionBlas (blasesOf (now (blases .entry))) id ⌝ }
+pub fn judge_blas(blases: &[u8], id: BlasId) -> Checked
+    ensures { λ r. ⌜ causeOf r ≡ mentionBlas (blasesOf (now (blases .entry))) (id .0) ⌝ }
 {
-    if let Mentioned::InvalidResource = blas_mention(blases, id) {
+    if let Mentioned::InvalidResource = blas_mention(blases, id.0 as usize) {
         return Checked::Refused(ValidateAsActionsError::InvalidResource);
     }
     Checked::Fine
 }
 
-pub fn judge_tlas(tlases: &[u8], id: usize) -> Checked
-    ensures { λ r. ⌜ causeOf r ≡ mentionTlas (tablesOnly [] (now (tlases .entry))) id ⌝ }
+pub fn judge_tlas(tlases: &[u8], id: TlasId) -> Checked
+    ensures { λ r. ⌜ causeOf r ≡ mentionTlas (tablesOnly [] (now (tlases .entry))) (id .0) ⌝ }
 {
-    if let Mentioned::InvalidResource = tlas_mention(tlases, id) {
+    if let Mentioned::InvalidResource = tlas_mention(tlases, id.0 as usize) {
         return Checked::Refused(ValidateAsActionsError::InvalidResource);
     }
     Checked::Fine
@@ -44,7 +46,7 @@ pub fn judge_ids(blases: &[u8], ids: &[u16]) -> Checked
 {
     let mut k = 0;
     while k < ids.len() {
-        let checked = judge_blas(blases, ids[k] as usize);
+        let checked = judge_blas(blases, BlasId(ids[k]));
         if let Checked::Refused(_) = checked {
             return checked;
         }
@@ -58,7 +60,7 @@ pub fn blas_of(blases: &[u8], id: BlasId) -> Blas
     requires { ⌜ id .0 < blasesIn (now blases) ⌝ }
     ensures { λ r. ⌜ r ≡ blas (blasesOf (now (blases .entry))) (id .0) ⌝ }
 {
-    blas_at(blases, id.0 as usize * 28)
+    blas_at(blases, id.0 as usize * BLAS_SIZE)
 }
 
 // What one action came to, as what the submission came to.

@@ -12,7 +12,7 @@ use Rattle.ray_tracing.specs.Submission.{Lent, Action, malformed, decodeCells, 
 use Rattle.ray_tracing.proofs.Firsts.{later-later, left-later}
 use Rattle.ray_tracing.proofs.Sound.{Sound, judged, sound-submission}
 use Rattle.submit_checks.specs.declared.Checked.the-variants.{Refused}
-use Rattle.submit_step.proofs.ByKind.{malformed-step}
+use Rattle.submit_run.proofs.ByKind.{malformed-step}
 
 pub record Running (n₀ : ℕ) (b₀ t₀ c₀ d₀ actions lists : List ℕ) (number : ℕ) (b t c d : List ℕ) (at index : ℕ) : Type 0 where
   pub sound : Sound (lentOf number b t c d)

@@ -1,11 +1,109 @@
-// The actions of a submission in turn, to the first that is refused.
+// The actions of a submission: one by its kind, a Build, a use, or a mark, which is a Build too; and in turn, to the first that is
+// refused.
 use ray_tracing::Submitted;
+use ray_tracing::TlasId;
 use ray_tracing::ValidateAsActionsError;
-use submit_step::step;
+use ray_tracing::pick;
+use submit_build::build_action;
+use submit_checks::Checked;
+use submit_checks::submitted;
+use submit_use::use_action;
 ghost use mathlib.Core.Path.{_≡_};
 ghost use mathlib.Core.Option.{none};
 ghost use Rattle.ray_tracing.specs.Submission as Submission;
-ghost use Rattle.ray_tracing.specs.Submission.{judge, decodeCells, outcomeOf, lentOf};
+ghost use Rattle.ray_tracing.specs.Submission.{judge, action, decode};
+ghost use Rattle.ray_tracing.specs.Submission.{outcomeOf, lentOf, lentWith, pieceOf, buffersOf};
+ghost use Rattle.submit_checks.specs.Outcome.{causeOf, Acts};
+ghost use Rattle.submit_run.specs.Operand.{operandCause};
+
+// An operand is a number until it is judged.
+const LARGEST_ID: u32 = 65535;
+
+// Of an action that is no Build: 5 of its kind, then 6 of an operand that no id is as large as.
+fn judge_operand(kind: u32, operand: u32) -> Checked
+    ensures { λ r. ⌜ causeOf r ≡ operandCause kind operand ⌝ }
+{
+    if kind < 2 {
+        return Checked::Refused(ValidateAsActionsError::InvalidValue);
+    }
+    if 4 < kind {
+        return Checked::Refused(ValidateAsActionsError::InvalidValue);
+    }
+    if LARGEST_ID < operand {
+        return Checked::Refused(ValidateAsActionsError::InvalidResource);
+    }
+    Checked::Fine
+}
+
+// One action, as action `index`. A mark is a Build whose Tlases list nothing: its lists stand in an array of its own.
+fn step(
+    counter: u64,
+    blases: &mut [u8],
+    tlases: &mut [u8],
+    dependency_counts: &mut [u16],
+    dependencies: &mut [u16],
+    lists: &[u16],
+    kind: u32,
+    operand: u32,
+    blas_count: u32,
+    tlas_count: u32,
+    index: usize,
+) -> Submitted
+    requires { ⌜ judge (lentOf counter (now blases) (now tlases) (now «dependency_counts») (now dependencies)) ≡ none ⌝ }
+    ensures { λ r. ⌜ Acts
+        counter
+        (buffersOf (now (blases .entry)) (now (tlases .entry)) (now («dependency_counts» .entry)) (now (dependencies .entry)))
+        index
+        (action (now (lists .entry)) kind operand «blas_count» «tlas_count»)
+        r
+        (buffersOf (now (blases .exit)) (now (tlases .exit)) (now («dependency_counts» .exit)) (now (dependencies .exit))) ⌝ }
+{
+    if kind == 1 {
+        return build_action(
+            counter,
+            blases,
+            tlases,
+            dependency_counts,
+            dependencies,
+            lists,
+            operand as usize,
+            blas_count as usize,
+            tlas_count as usize,
+            index,
+        );
+    }
+    let checked = judge_operand(kind, operand);
+    if let Checked::Refused(_) = checked {
+        return submitted(checked, index, counter);
+    }
+    let id = operand as u16;
+    if kind == 2 {
+        return use_action(
+            counter,
+            &blases[..],
+            &tlases[..],
+            &dependency_counts[..],
+            &dependencies[..],
+            TlasId(id),
+            index,
+        );
+    }
+    let own = [id, 0];
+    let blas_mark = pick(kind == 3, 1, 0);
+    let tlas_mark = pick(kind == 3, 0, 1);
+    build_action(
+        counter,
+        blases,
+        tlases,
+        dependency_counts,
+        dependencies,
+        &own,
+        0,
+        blas_mark,
+        tlas_mark,
+        index,
+    )
+}
 
 // The actions in turn, to the first that is refused.
 pub fn run(
@@ -18,8 +116,11 @@ pub fn run(
     lists: &[u16],
 ) -> Submitted
     requires { ⌜ judge (lentOf counter (now blases) (now tlases) (now «dependency_counts») (now dependencies)) ≡ none ⌝ }
-    ensures { λ r. ⌜ outcomeOf r (now (blases .exit)) (now (tlases .exit)) (now («dependency_counts» .exit)) (now (dependencies .exit))
-        ≡ Submission.run (lentOf counter (now (blases .entry)) (now (tlases .entry)) (now («dependency_counts» .entry)) (now (dependencies .entry))) (decodeCells (now (lists .entry)) (now (actions .entry))) ⌝ }
+    ensures { λ r. ⌜ outcomeOf r (now (blases .exit)) (now (tlases .exit)) (now («dependency_counts» .exit))
+        (now (dependencies .exit))
+        ≡ Submission.run (lentWith counter
+        (buffersOf (now (blases .entry)) (now (tlases .entry)) (now («dependency_counts» .entry)) (now (dependencies .entry))))
+        (decode (pieceOf (now (actions .entry)) (now (lists .entry)))) ⌝ }
 {
     let mut number = counter;
     let mut at = 0;

@@ -1,9 +1,11 @@
 // The start of a submission, judged before all actions: sections 2 and 4, room, then the starting lists.
 use ray_tracing::Judged;
 use ray_tracing::SheetError;
+use ray_tracing::TLAS_ROOM;
+use ray_tracing::TLAS_SIZE;
 use ray_tracing::TlasId;
 use ray_tracing::ValidateAsActionsError;
-use sheet::judge_lent;
+use sheet_sections::judge_lent;
 use submit_checks::Checked;
 use submit_checks::judge_ids;
 ghost use mathlib.Core.Path.{_≡_};
@@ -13,7 +15,7 @@ ghost use lib.ListN.{length};
 ghost use Rattle.ray_tracing.specs.Layout.{layout, size};
 ghost use Rattle.ray_tracing.specs.Reading.{judgeLent};
 ghost use Rattle.ray_tracing.specs.Causes.{bare, sheetNumber, submissionCause};
-ghost use Rattle.ray_tracing.specs.Submission.{tableCause, judgeRoom, judgeList, judgeLists, judge, lentOf};
+ghost use Rattle.ray_tracing.specs.Submission.{tableCause, judgeRoom, judgeList, judgeLists, judge, mostDependencies, lentOf};
 ghost use Rattle.submit_checks.specs.Outcome.{causeOf};
 ghost use Rattle.submit_checks.specs.Known.{tlasesIn, ListRoom};
 
@@ -24,15 +26,17 @@ fn judge_list(
     dependencies: &[u16],
     tlas: TlasId,
 ) -> Checked
-    requires { ⌜ (tlas .0 < length (now «dependency_counts»)) × (tlas .0 * 512 + 512 ≤ length (now dependencies)) ⌝ }
-    ensures { λ r. ⌜ causeOf r ≡ judgeList (lentOf 0 (now (blases .entry)) [] (now («dependency_counts» .entry)) (now (dependencies .entry))) (tlas .0) ⌝ }
+    requires { ⌜ (tlas .0 < length (now «dependency_counts»))
+        × (tlas .0 * mostDependencies + mostDependencies ≤ length (now dependencies)) ⌝ }
+    ensures { λ r. ⌜ causeOf r
+        ≡ judgeList (lentOf 0 (now (blases .entry)) [] (now («dependency_counts» .entry)) (now (dependencies .entry))) (tlas .0) ⌝ }
 {
     let t = tlas.0 as usize;
     let count = dependency_counts[t] as usize;
-    if 512 < count {
+    if TLAS_ROOM < count {
         return Checked::Refused(ValidateAsActionsError::TooMany);
     }
-    let start = t * 512;
+    let start = t * TLAS_ROOM;
     let end = start + count;
     judge_ids(blases, &dependencies[start..end])
 }
@@ -44,7 +48,11 @@ fn judge_lists(
     dependencies: &[u16],
 ) -> Checked
     requires { ⌜ ListRoom «tlas_count» (now «dependency_counts») (now dependencies) ⌝ }
-    ensures { λ r. ⌜ causeOf r ≡ judgeLists (lentOf 0 (now (blases .entry)) [] (now («dependency_counts» .entry)) (now (dependencies .entry))) 0 «tlas_count» ⌝ }
+    ensures { λ r. ⌜ causeOf r
+        ≡ judgeLists
+        (lentOf 0 (now (blases .entry)) [] (now («dependency_counts» .entry)) (now (dependencies .entry)))
+        0
+        «tlas_count» ⌝ }
 {
     let mut t = 0;
     while t < tlas_count {
@@ -71,7 +79,8 @@ fn table_error(e: SheetError) -> ValidateAsActionsError
 // A table of the start, judged as in a build.
 fn judge_table(table: &[u8], section: usize) -> Checked
     requires { ⌜ (0 < section) × (section < 10) ⌝ }
-    ensures { λ r. ⌜ causeOf r ≡ tableCause (judgeLent section (layout section) (size (section - 1)) [] (now (table .entry))) ⌝ }
+    ensures { λ r. ⌜ causeOf r
+        ≡ tableCause (judgeLent section (layout section) (size (section - 1)) [] (now (table .entry))) ⌝ }
 {
     match judge_lent(table, section, &table[..0]) {
         Judged::Fine => Checked::Fine,
@@ -81,14 +90,15 @@ fn judge_table(table: &[u8], section: usize) -> Checked
 
 // 39 unless each Tlas's list has room for 512.
 fn judge_room(tlases: &[u8], dependency_counts: &[u16], dependencies: &[u16]) -> Checked
-    requires { ⌜ tlasesIn (now tlases) ≤ 32 ⌝ }
-    ensures { λ r. ⌜ causeOf r ≡ judgeRoom (lentOf 0 [] (now (tlases .entry)) (now («dependency_counts» .entry)) (now (dependencies .entry))) ⌝ }
+    requires { ⌜ tlasesIn (now tlases) ≤ layout 4 .most ⌝ }
+    ensures { λ r. ⌜ causeOf r
+        ≡ judgeRoom (lentOf 0 [] (now (tlases .entry)) (now («dependency_counts» .entry)) (now (dependencies .entry))) ⌝ }
 {
-    let tlas_count = tlases.len() / 22;
+    let tlas_count = tlases.len() / TLAS_SIZE;
     if dependency_counts.len() < tlas_count {
         return Checked::Refused(ValidateAsActionsError::OutputTooShort);
     }
-    if dependencies.len() < tlas_count * 512 {
+    if dependencies.len() < tlas_count * TLAS_ROOM {
         return Checked::Refused(ValidateAsActionsError::OutputTooShort);
     }
     Checked::Fine
@@ -101,7 +111,9 @@ pub fn judge_start(
     dependency_counts: &[u16],
     dependencies: &[u16],
 ) -> Checked
-    ensures { λ r. ⌜ ((n : ℕ) → causeOf r ≡ judge (lentOf n (now (blases .entry)) (now (tlases .entry)) (now («dependency_counts» .entry)) (now (dependencies .entry)))) ⌝ }
+    ensures { λ r. ⌜ ((n : ℕ) → causeOf r
+        ≡ judge
+        (lentOf n (now (blases .entry)) (now (tlases .entry)) (now («dependency_counts» .entry)) (now (dependencies .entry)))) ⌝ }
 {
     let first = judge_table(blases, 2);
     if let Checked::Refused(_) = first {
@@ -115,6 +127,6 @@ pub fn judge_start(
     if let Checked::Refused(_) = room {
         return room;
     }
-    let tlas_count = (tlases.len() / 22) as u16;
+    let tlas_count = (tlases.len() / TLAS_SIZE) as u16;
     judge_lists(blases, tlas_count, dependency_counts, dependencies)
 }

@@ -1,13 +1,9 @@
 -- `submit_build_checks::judge_package` meets its contract: each return is the definition's own case. Assumes nothing.
 use Rattle.submit_checks.proofs.Walks.{or-stop, or-pass}
 use native.Mathlib.Nat.{add-sub-cancel-left}
-use native.Mathlib.Omega.{arith}
 use borrow.Author.Needs.{needs}
 use Rattle.submit_build_checks.proofs.judge_package.Statement.{statement}
 use Rattle.submit_build_checks.proofs.judge_package.Tie as tie
-
-cast-judge-tlas : tie.Need-cast-judge-tlas
-cast-judge-tlas c = omega (arith, c .shared-slice-known4 .given (c .before .before .before .before .args .at))
 
 returns : tie.Need-returns
 returns c = or-stop _ (c .before .before .judge-tlas .ensures) (c .enum-told .given .1)
@@ -21,7 +17,6 @@ judge-package-spec =
     (tie.spec
     (λ c. search needs)
     (λ c. search needs)
-    cast-judge-tlas
     (λ c κs. search needs)
     (λ c. search needs)
     returns

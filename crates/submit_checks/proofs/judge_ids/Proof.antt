@@ -3,7 +3,6 @@ use Rattle.submit_checks.proofs.Walks.{rest-step, rest-done, stops, goe
 use Rattle.submit_checks.specs.Outcome.{blasesOf}
 use Rattle.ray_tracing.specs.Submission.{first, mentionBlas}
 use lib.ListN.{length, drop}
-use native.Mathlib.Omega.{arith}
 use Prim.Native.Nat.{_≤_, _-_}
 use mathlib.Core.Path.{_≡_}
 use borrow.Author.Needs.{needs}
@@ -15,9 +14,6 @@ Inv-loop blases ids k₀ k = (k ≤ length ids) × (first (mentionBlas (blasesOf
 
 abbrev μ-loop : tie.MeasureT-loop
 μ-loop blases ids k₀ k = length ids - k
-
-cast-judge-blas : tie.Need-cast-judge-blas Inv-loop μ-loop
-cast-judge-blas c = omega (arith, c .shared-slice-known3 .given (c .before .before .loop .k))
 
 returns : tie.Need-returns Inv-loop μ-loop
 returns c = stops (mentionBlas (blasesOf (c .before .before .before .before .before .before .before .before .args .blases .now))) (rest-step _ _ (c .before .before .before .before .loop-test .taken)) (c .before .before .before .before .before .loop .inv .1) (c .before .before .judge-blas .ensures) (c .enum-told .given .1)
@@ -37,7 +33,6 @@ judge-ids-spec =
     (λ c. search needs)
     (λ c. search needs)
     (λ c. search needs)
-    cast-judge-blas
     (λ c κs. search needs)
     (λ c. search needs)
     returns
