@@ -3,7 +3,7 @@
 // oracle/README.md says how a record is written and what is in the list.
 use libc::STDOUT_FILENO;
 use ray_tracing::Reported;
-use submit::Validated;
+use submit::Numbered;
 
 fn print_text(text: &[u8], n: usize) {
     if n <= text.len() {
@@ -52,7 +52,7 @@ fn fill_lists(cells: &mut [u16], counts: &[u16]) {
     }
 }
 
-fn print_answer(answer: Validated) -> u64 {
+fn print_answer(answer: Numbered) -> u64 {
     let figures = [answer.number, answer.action, answer.first, answer.second];
     let next = [answer.counter];
     io::write_all(STDOUT_FILENO, b"submit ");

@@ -3,49 +3,56 @@
 use Prim.Native.Nat.{ℕ, _<_, _^_}
 use mathlib.Core.Path.{_≡_, refl, sym, ap}
 use mathlib.Core.Option.{none}
-use mathlib.Core.List.{List}
 use Rattle.ray_tracing.specs.declared.Submitted.{Submitted}
-use Rattle.ray_tracing.specs.Submission.{Lent, Outcome, Answer, _leaving_, decode, judge, submission, counterOf, answerOf, pieceOf}
+use Rattle.ray_tracing.specs.declared.CommandIndices.{CommandIndices}
+use Rattle.ray_tracing.specs.declared.Validated.{Validated}
+use Rattle.ray_tracing.specs.Submission.{
+  Outcome,
+  _leaving_,
+  Piece,
+  Buffers,
+  lentWith,
+  decode,
+  judge,
+  submission,
+  counterOf,
+  answerOf,
+  Shown,
+  shown,
+  numbersOf,
+  Submits,
+  Validates,
+}
 use Rattle.ray_tracing.specs.Claim.{Call, Demand-3}
 use Rattle.ray_tracing.proofs.Demand3.{demand-3}
-use Rattle.submit.specs.declared.CommandIndices.{CommandIndices}
-use Rattle.submit.specs.declared.Validated.{Validated}
-use Rattle.submit.specs.Numbers.{Shown, shown, shownOf}
-use Rattle.submit.specs.Demand.{Buffers, lent, Submits, Validates, Told-call}
+use Rattle.submit.specs.Demand.{Told-call}
 
 -- `submit`'s promise is `Call`
 pub submit-is-call :
-    (n : ℕ) (x : Buffers) (a l : List ℕ) (r : Submitted) (y : Buffers)
-    → Submits n x a l r y
-    → Call (lent n x) (pieceOf a l) (answerOf r) (lent (counterOf r) y)
-submit-is-call n x a l r y e = e
+    (n : ℕ) (x : Buffers) (p : Piece) (r : Submitted) (y : Buffers)
+    → Submits n x p r y
+    → Call (lentWith n x) p (answerOf r) (lentWith (counterOf r) y)
+submit-is-call n x p r y e = e
 
 -- so is the wrapper's, and the next call goes on with the counter that it stored
 pub validate-is-call :
-    (i : CommandIndices) (x : Buffers) (a l : List ℕ) (v : Validated) (j : CommandIndices) (y : Buffers)
-    → Validates i x a l v j y
-    → Told-call
-    (lent (i .«next_acceleration_structure_build_command_index») x)
-    (pieceOf a l)
-    v
-    (lent (j .«next_acceleration_structure_build_command_index») y)
-validate-is-call i x a l v j y e =
-    go (submission (lent (i .«next_acceleration_structure_build_command_index») x) (decode (pieceOf a l))) refl
+    (i : CommandIndices) (x : Buffers) (p : Piece) (v : Validated) (j : CommandIndices) (y : Buffers)
+    → Validates i x p v j y
+    → Told-call (lentWith (i .«next_acceleration_structure_build_command_index») x) p v (lentWith (j .«next_acceleration_structure_build_command_index») y)
+validate-is-call i x p v j y e = go (submission (lentWith (i .«next_acceleration_structure_build_command_index») x) (decode p)) refl
   where
     go :
         (o : Outcome)
-        → submission (lent (i .«next_acceleration_structure_build_command_index») x) (decode (pieceOf a l)) ≡ o
-        → Told-call
-        (lent (i .«next_acceleration_structure_build_command_index») x)
-        (pieceOf a l)
-        v
-        (lent (j .«next_acceleration_structure_build_command_index») y)
-    go (b leaving m) p =
-        let t : shownOf v (y .blases) (y .tlases) (y .dependencyCounts) (y .dependencies) ≡ shown (b leaving m) = rw p at (e .tells) in
-        let q : lent (j .«next_acceleration_structure_build_command_index») y ≡ m = rw (e .counter) (ap (λ (s : Shown). s .left) t) in
-        record { answer = b; is = rw q (sym p); numbers = ap (λ (s : Shown). s .numbers) t }
+        → submission (lentWith (i .«next_acceleration_structure_build_command_index») x) (decode p) ≡ o
+        → Told-call (lentWith (i .«next_acceleration_structure_build_command_index») x) p v (lentWith (j .«next_acceleration_structure_build_command_index») y)
+    go (b leaving m) q =
+        let t :
+        _≡_ {A = Shown} (record { numbers = numbersOf v; counter = j .«next_acceleration_structure_build_command_index»; left = y }) (shown (b leaving m))
+        = rw q at (e .shows) in
+        let w : lentWith (j .«next_acceleration_structure_build_command_index») y ≡ m = ap (λ (s : Shown). lentWith (s .counter) (s .left)) t in
+        record { answer = b; is = rw w (sym q); numbers = ap (λ (s : Shown). s .numbers) t }
 
 -- demand 3, of whatever a station lends: any start that is not refused
 pub demand-3-of-the-routines :
-    (n : ℕ) (x : Buffers) → n < 2 ^ 64 → judge (lent n x) ≡ none → Demand-3 (lent n x)
-demand-3-of-the-routines n x = demand-3 (lent n x)
+    (n : ℕ) (x : Buffers) → n < 2 ^ 64 → judge (lentWith n x) ≡ none → Demand-3 (lentWith n x)
+demand-3-of-the-routines n x = demand-3 (lentWith n x)

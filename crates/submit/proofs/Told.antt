@@ -2,13 +2,26 @@
 use mathlib.Core.Path.{_≡_, ap, _∙_}
 use mathlib.Core.Option.{none}
 use mathlib.Core.List.{List}
-use Prim.Native.Nat.{ℕ}
 use Rattle.ray_tracing.specs.declared.Submitted.{Submitted}
 use Rattle.ray_tracing.specs.declared.ValidateAsActionsError.{ValidateAsActionsError}
-use Rattle.ray_tracing.specs.Submission.{Lent, Action, Outcome, judge, run, submission, answerNumbers, outcomeOf, counterOf, answerOf, lentOf}
+use Rattle.ray_tracing.specs.Submission.{
+  Lent,
+  Action,
+  Outcome,
+  judge,
+  run,
+  submission,
+  answerNumbers,
+  outcomeOf,
+  counterOf,
+  answerOf,
+  Shown,
+  shown,
+  Buffers,
+}
 use Rattle.submit_checks.specs.Outcome.{causeOf, submittedOf}
-use Rattle.submit.specs.Numbers.{shown, numbersOf, shownOf}
-use Rattle.submit.specs.declared.Validated.{Validated}
+use Rattle.submit.specs.Told.{numbersIn}
+use Rattle.submit.specs.declared.Numbered.{Numbered}
 use Rattle.submit_checks.specs.declared.Checked.{Checked}
 use Rattle.submit_checks.specs.declared.Checked.the-variants.{Refused}
 use Rattle.submit_checks.proofs.Walks.{refusal}
@@ -22,6 +35,8 @@ pub submission-runs : (l : Lent) (acts : List Action) {o : Outcome} → judge l 
 unfolding submission
 submission-runs l acts p q = rw p q
 
-pub told-is : (x : Submitted) (v : Validated) (b t c d : List ℕ) {o : Outcome} → numbersOf v ≡ answerNumbers (answerOf x) → v .counter ≡ counterOf x → outcomeOf x b t c d ≡ o
-    → shownOf v b t c d ≡ shown o
-told-is x v b t c d p q e = (λ i. record { numbers = p i; left = lentOf (q i) b t c d }) ∙ ap shown e
+pub told-is :
+    (x : Submitted) (v : Numbered) (y : Buffers) {o : Outcome} → numbersIn v ≡ answerNumbers (answerOf x) → v .counter ≡ counterOf x
+    → outcomeOf x (y .blases) (y .tlases) (y .dependencyCounts) (y .dependencies) ≡ o
+    → _≡_ {A = Shown} (record { numbers = numbersIn v; counter = v .counter; left = y }) (shown o)
+told-is x v y p q e = (λ i. record { numbers = p i; counter = q i; left = y }) ∙ ap shown e

@@ -1,13 +1,15 @@
 // `validate_acceleration_structure_actions`: the start is judged, then the actions in turn.
 use causes::submission_figures;
+use ray_tracing::CommandIndices;
 use ray_tracing::Submitted;
+use ray_tracing::Validated;
 use submit_checks::Checked;
 use submit_checks::submitted;
 use submit_run::run;
 use submit_start::judge_start;
 ghost use mathlib.Core.Path.{_≡_};
-ghost use Rattle.ray_tracing.specs.Submission.{decode, submission, answerNumbers, outcomeOf, counterOf, answerOf, lentOf, pieceOf};
-ghost use Rattle.submit.specs.Numbers.{shown, numbersOf, shownOf};
+ghost use Rattle.ray_tracing.specs.Submission.{buffersOf, pieceOf, answerOf, answerNumbers, counterOf, Submits, Validates};
+ghost use Rattle.submit.specs.Told.{numbersIn, Tells};
 
 // A submission: the start is judged, then the actions in turn.
 pub fn submit(
@@ -19,8 +21,12 @@ pub fn submit(
     actions: &[u32],
     lists: &[u16],
 ) -> Submitted
-    ensures { λ r. ⌜ outcomeOf r (now (blases .exit)) (now (tlases .exit)) (now («dependency_counts» .exit)) (now (dependencies .exit))
-        ≡ submission (lentOf counter (now (blases .entry)) (now (tlases .entry)) (now («dependency_counts» .entry)) (now (dependencies .entry))) (decode (pieceOf (now (actions .entry)) (now (lists .entry)))) ⌝ }
+    ensures { λ r. ⌜ Submits
+        counter
+        (buffersOf (now (blases .entry)) (now (tlases .entry)) (now («dependency_counts» .entry)) (now (dependencies .entry)))
+        (pieceOf (now (actions .entry)) (now (lists .entry)))
+        r
+        (buffersOf (now (blases .exit)) (now (tlases .exit)) (now («dependency_counts» .exit)) (now (dependencies .exit))) ⌝ }
 {
     let checked = judge_start(
         &blases[..],
@@ -42,16 +48,8 @@ pub fn submit(
     )
 }
 
-// The counter of Builds steps where it lies; the submission index never moves.
-#[repr(C)]
-pub struct CommandIndices {
-    pub active_submission_index: u64,
-    pub next_acceleration_structure_build_command_index: u64,
-}
-
 // What a submission came to, by the paper's numbers: number, action and two figures, 0 where it was accepted; and the counter.
-#[repr(C)]
-pub struct Validated {
+pub struct Numbered {
     pub number: u64,
     pub action: u64,
     pub first: u64,
@@ -59,11 +57,11 @@ pub struct Validated {
     pub counter: u64,
 }
 
-fn answered(answer: Submitted) -> Validated
-    ensures { λ r. ⌜ (numbersOf r ≡ answerNumbers (answerOf answer)) × (r .counter ≡ counterOf answer) ⌝ }
+fn answered(answer: Submitted) -> Numbered
+    ensures { λ r. ⌜ (numbersIn r ≡ answerNumbers (answerOf answer)) × (r .counter ≡ counterOf answer) ⌝ }
 {
     match answer {
-        Submitted::Accepted(counter) => Validated {
+        Submitted::Accepted(counter) => Numbered {
             number: 0,
             action: 0,
             first: 0,
@@ -72,7 +70,7 @@ fn answered(answer: Submitted) -> Validated
         },
         Submitted::Refused(e, action, counter) => {
             let figures = submission_figures(e);
-            Validated {
+            Numbered {
                 number: figures.number,
                 action: action as u64,
                 first: figures.first,
@@ -83,7 +81,7 @@ fn answered(answer: Submitted) -> Validated
     }
 }
 
-// `submit`, answered by numbers.
+// `submit`, told by numbers.
 pub fn submit_numbers(
     counter: u64,
     blases: &mut [u8],
@@ -92,9 +90,13 @@ pub fn submit_numbers(
     dependencies: &mut [u16],
     actions: &[u32],
     lists: &[u16],
-) -> Validated
-    ensures { λ r. ⌜ shownOf r (now (blases .exit)) (now (tlases .exit)) (now («dependency_counts» .exit)) (now (dependencies .exit))
-        ≡ shown (submission (lentOf counter (now (blases .entry)) (now (tlases .entry)) (now («dependency_counts» .entry)) (now (dependencies .entry))) (decode (pieceOf (now (actions .entry)) (now (lists .entry))))) ⌝ }
+) -> Numbered
+    ensures { λ r. ⌜ Tells
+        counter
+        (buffersOf (now (blases .entry)) (now (tlases .entry)) (now («dependency_counts» .entry)) (now (dependencies .entry)))
+        (pieceOf (now (actions .entry)) (now (lists .entry)))
+        r
+        (buffersOf (now (blases .exit)) (now (tlases .exit)) (now («dependency_counts» .exit)) (now (dependencies .exit))) ⌝ }
 {
     answered(submit(
         counter,
@@ -116,10 +118,13 @@ pub fn validate_acceleration_structure_actions(
     actions: &[u32],
     lists: &[u16],
 ) -> Validated
-    ensures { λ r. ⌜ (shownOf r (now (blases .exit)) (now (tlases .exit)) (now («dependency_counts» .exit)) (now (dependencies .exit))
-        ≡ shown (submission (lentOf (now (indices .entry) .«next_acceleration_structure_build_command_index») (now (blases .entry)) (now (tlases .entry)) (now («dependency_counts» .entry)) (now (dependencies .entry))) (decode (pieceOf (now (actions .entry)) (now (lists .entry))))))
-        × (now (indices .exit) .«next_acceleration_structure_build_command_index» ≡ r .counter)
-        × (now (indices .exit) .«active_submission_index» ≡ now (indices .entry) .«active_submission_index») ⌝ }
+    ensures { λ r. ⌜ Validates
+        (now (indices .entry))
+        (buffersOf (now (blases .entry)) (now (tlases .entry)) (now («dependency_counts» .entry)) (now (dependencies .entry)))
+        (pieceOf (now (actions .entry)) (now (lists .entry)))
+        r
+        (now (indices .exit))
+        (buffersOf (now (blases .exit)) (now (tlases .exit)) (now («dependency_counts» .exit)) (now (dependencies .exit))) ⌝ }
 {
     let counter = indices.next_acceleration_structure_build_command_index;
     let s = submit_numbers(
@@ -132,5 +137,10 @@ pub fn validate_acceleration_structure_actions(
         lists,
     );
     indices.next_acceleration_structure_build_command_index = s.counter;
-    s
+    Validated {
+        number: s.number,
+        action: s.action,
+        first: s.first,
+        second: s.second,
+    }
 }

@@ -5,7 +5,7 @@ use Rattle.submit.proofs.submit_numbers.Statement.{statement}
 use Rattle.submit.proofs.submit_numbers.Tie as tie
 
 returns : tie.Need-returns
-returns c = told-is (c .before .before .before .before .before .before .before .before .before .submit .result) (c .answered .result) _ _ _ _ (c .answered .ensures .0) (c .answered .ensures .1) (c .before .before .before .before .before .before .before .before .before .submit .ensures)
+returns c = told-is (c .before .before .before .before .before .before .before .before .before .submit .result) (c .answered .result) _ (c .answered .ensures .0) (c .answered .ensures .1) (c .before .before .before .before .before .before .before .before .before .submit .ensures)
 
 pub submit-numbers-spec : {M : Type 1} → statement M
 submit-numbers-spec =

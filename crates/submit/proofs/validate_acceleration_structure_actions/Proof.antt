@@ -1,4 +1,4 @@
--- `submit::validate_acceleration_structure_actions` meets its contract: a walk of its MIR, by hand. The borrow of the struct is opened and the counter is read; the slices go to `submit_numbers` at their own lifetimes, and the counter that it returns is stored; the borrow is closed at the new record.
+-- `submit::validate_acceleration_structure_actions` meets its contract: a walk of its MIR, by hand. The borrow of the struct is opened and the counter is read; the slices go to `submit_numbers` at their own lifetimes, and the counter that it returns is stored; the borrow is closed at the new record, and the four other numbers are the answer.
 -- All that the proof knows of `submit_numbers` is that it meets its contract.
 -- Assumes nothing.
 use mathlib.Core.Path.{_≡_, refl, ap}
@@ -41,14 +41,17 @@ use denote.Triple.Clauses.{ensured, lasts}
 use denote.Triple.Table.{entered, cited}
 use denote.Triple.Walked.{says, needs, Stays, stay-ref, stay-none, gave-slice, stay-none-slice, walkOf, AllGo, goes-ref, goes-none, goes-gave-slice, goes-none-slice, Walks, ends-at, walked, walk-meets}
 use denote.Exit.{yes}
-use Rattle.ray_tracing.specs.Submission.{submission, decode, lentOf, pieceOf}
-use Rattle.submit.specs.Numbers.{shown, shownOf}
-use Rattle.submit.specs.declared.CommandIndices.{CommandIndices}
-use Rattle.submit.specs.declared.Validated.{Validated}
-use Rattle.submit.proofs.CommandIndices as T
-use Rattle.submit.proofs.CommandIndices.Laws as T′
-use Rattle.submit.proofs.Validated as S
-use Rattle.submit.proofs.Validated.Laws as S′
+use Rattle.ray_tracing.specs.Submission.{pieceOf, buffersOf}
+use Rattle.submit.specs.Told.{Tells}
+use Rattle.ray_tracing.specs.declared.CommandIndices.{CommandIndices}
+use Rattle.submit.specs.declared.Numbered.{Numbered}
+use Rattle.ray_tracing.proofs.CommandIndices as T
+use Rattle.ray_tracing.proofs.CommandIndices.Laws as T′
+use Rattle.submit.proofs.Numbered as S
+use Rattle.submit.proofs.Numbered.Laws as S′
+use Rattle.ray_tracing.specs.declared.Validated.{Validated}
+use Rattle.ray_tracing.proofs.Validated as U
+use Rattle.ray_tracing.proofs.Validated.Laws as U′
 use Rattle.submit.proofs.submit_numbers as step
 use Rattle.submit.proofs.submit_numbers.Symbol as step-def
 use Rattle.submit.proofs.submit_numbers.Symbol.{name as #step}
@@ -112,17 +115,26 @@ module _ {M : Type 1} (𝓤 : URA M) (H : Heap 𝓤) (A : Atoms 𝓤) (W : Given
       qed W ((‵ (flft κ1 q1) ⊛ ‵ (flft κ2 q2) ⊛ ‵ (flft κ3 q3) ⊛ ‵ (flft κ4 q4) ⊛ ‵ (flft κ5 q5) ⊛ ‵ (flft κ6 q6) ⊛ ‵ ftrue) ∷ ‵ (MutSlice (named 1) κ1 u8 .own p1 (v1 ∷ [])) ∷ ‵ (MutSlice (named 2) κ2 u8 .own p2 (v2 ∷ [])) ∷ ‵ (MutSlice (named 3) κ3 u16 .own p3 (v3 ∷ [])) ∷ ‵ (MutSlice (named 4) κ4 u16 .own p4 (v4 ∷ [])) ∷ ‵ (ShrSlice (named 5) κ5 u32 .own p5 (v5 ∷ [])) ∷ ‵ (ShrSlice (named 6) κ6 u16 .own p6 (v6 ∷ [])) ∷ []) ∵ nothing ! $
       move ! (7 ∷ 0 ∷ []) $ fjoin ! $ move ! (6 ∷ 0 ∷ []) $ fjoin ! $ move ! (5 ∷ 0 ∷ []) $ fjoin ! $ move ! (4 ∷ 0 ∷ []) $ fjoin ! $ move ! (3 ∷ 0 ∷ []) $ fjoin ! $ move ! (2 ∷ 0 ∷ []) $ fjoin ! $ owned ! u64 (Is u64) (uint-makes 𝓤 H A W w64) n _ (refl, n-fits) $ fjoin ! $ move ! (1 ∷ 0 ∷ []) $ join ! $ frame ! $ done !
 
-  abbrev val : Validated → Val
-  val r = LL.val S.the-type S′.the-laws r
+  -- what is answered of the numbers that `submit_numbers` returns
+  abbrev answer : Numbered → Validated
+  answer r = record { number = r .number; action = r .action; first = r .first; second = r .second }
 
-  exits : (r : Validated) (w1 : List ℕ) (w2 : List ℕ) (w3 : List ℕ) (w4 : List ℕ) → shownOf r w1 w2 w3 w4 ≡ shown (submission (lentOf n (p1 .now) (p2 .now) (p3 .now) (p4 .now)) (decode (pieceOf (p5 .now) (p6 .now)))) → length w1 ≡ length (p1 .now) → length w2 ≡ length (p2 .now) → length w3 ≡ length (p3 .now) → length w4 ≡ length (p4 .now) → Is S.the-row r (val r ∷ [])
+  abbrev val : Numbered → Val
+  val r = LL.val U.the-type U′.the-laws (answer r)
+
+  answers : (r : Numbered) {vs : List Val} → Is S.the-row r vs → Is U.the-row (answer r) (val r ∷ [])
+  answers r is =
+      let o = LL.owed S.the-type S′.the-laws r _ is in
+      LL.owes U.the-type U′.the-laws (answer r) (o .0, (o .1 .0, (o .1 .1 .0, (o .1 .1 .1 .0, tt))))
+
+  exits : (r : Numbered) (w1 : List ℕ) (w2 : List ℕ) (w3 : List ℕ) (w4 : List ℕ) → Tells n (buffersOf (p1 .now) (p2 .now) (p3 .now) (p4 .now)) (pieceOf (p5 .now) (p6 .now)) r (buffersOf w1 w2 w3 w4) → length w1 ≡ length (p1 .now) → length w2 ≡ length (p2 .now) → length w3 ≡ length (p3 .now) → length w4 ≡ length (p4 .now) → Is U.the-row (answer r) (val r ∷ [])
       → ent 𝓤 (⋆ 𝓤 H A (‵ (fobs γ (T.the-row .coded .code (h′ (r .counter)))) ∷ ‵ (fbor κ0 (Body (mem T.the-row) b o γ)) ∷ ‵ (flft κ0 q0) ∷ (‵ (flft κ1 q1) ⊛ ‵ (flft κ2 q2) ⊛ ‵ (flft κ3 q3) ⊛ ‵ (flft κ4 q4) ⊛ ‵ (flft κ5 q5) ⊛ ‵ (flft κ6 q6) ⊛ ‵ ftrue) ∷ ‵ (finally u16 (p4 .name) w4) ∷ ‵ (finally u16 (p3 .name) w3) ∷ ‵ (finally u8 (p2 .name) w2) ∷ ‵ (finally u8 (p1 .name) w1) ∷ ‵ (ShrSlice (named 6) κ6 u16 .own p6 (v6 ∷ [])) ∷ ‵ (ShrSlice (named 5) κ5 u32 .own p5 (v5 ∷ [])) ∷ [])) (Post (val r))
   exits r w1 w2 w3 w4 e l1 l2 l3 l4 is =
       qed W (‵ (fobs γ (T.the-row .coded .code (h′ (r .counter)))) ∷ ‵ (fbor κ0 (Body (mem T.the-row) b o γ)) ∷ ‵ (flft κ0 q0) ∷ (‵ (flft κ1 q1) ⊛ ‵ (flft κ2 q2) ⊛ ‵ (flft κ3 q3) ⊛ ‵ (flft κ4 q4) ⊛ ‵ (flft κ5 q5) ⊛ ‵ (flft κ6 q6) ⊛ ‵ ftrue) ∷ ‵ (finally u16 (p4 .name) w4) ∷ ‵ (finally u16 (p3 .name) w3) ∷ ‵ (finally u8 (p2 .name) w2) ∷ ‵ (finally u8 (p1 .name) w1) ∷ ‵ (ShrSlice (named 6) κ6 u16 .own p6 (v6 ∷ [])) ∷ ‵ (ShrSlice (named 5) κ5 u32 .own p5 (v5 ∷ [])) ∷ []) ∵
-      suffices ! _ (ends-at 𝓤 H A f.ended stayed (f.clauses 𝓤 H A at-mem run) W (((κ0, (κ1, (κ2, (κ3, (κ4, (κ5, (κ6, tt))))))), (q0, (q1, (q2, (q3, (q4, (q5, (q6, tt))))))), tt, x, vals), tt) (val r) r (h′ (r .counter), (w1, (w2, (w3, (w4, (tt, (tt, tt))))))) (tt, (l1, (l2, (l3, (l4, (tt, (tt, tt)))))))) $ says ! (e, refl, refl) $
+      suffices ! _ (ends-at 𝓤 H A f.ended stayed (f.clauses 𝓤 H A at-mem run) W (((κ0, (κ1, (κ2, (κ3, (κ4, (κ5, (κ6, tt))))))), (q0, (q1, (q2, (q3, (q4, (q5, (q6, tt))))))), tt, x, vals), tt) (val r) (answer r) (h′ (r .counter), (w1, (w2, (w3, (w4, (tt, (tt, tt))))))) (tt, (l1, (l2, (l3, (l4, (tt, (tt, tt)))))))) $ says ! (record { shows = e; unmoved = refl }) $
       move ! (2 ∷ 3 ∷ []) $ join ! $ frame ! $ feqI ! (List Val) (vptr b o ∷ []) (vptr b o ∷ []) refl $ fjoin3 ! $ nothing ! $
       move ! (6 ∷ 0 ∷ []) $ fjoin ! $ move ! (6 ∷ 0 ∷ []) $ fjoin ! $ move ! (2 ∷ 0 ∷ []) $ fjoin ! $ move ! (2 ∷ 0 ∷ []) $ fjoin ! $ move ! (2 ∷ 0 ∷ []) $ fjoin ! $ move ! (2 ∷ 0 ∷ []) $ fjoin ! $ move ! (1 ∷ 0 ∷ []) $ fjoin ! $
-      owned ! S.the-row (Is S.the-row) ((LL.makes S.the-type S′.the-plain) 𝓤 H A) r _ is $ move ! (1 ∷ 0 ∷ []) $ done !
+      owned ! U.the-row (Is U.the-row) ((LL.makes U.the-type U′.the-plain) 𝓤 H A) (answer r) _ is $ move ! (1 ∷ 0 ∷ []) $ done !
 
   module _ (C : Calls 𝓤 H) (Λ : Loops 𝓤 H) (fm : FmC 𝓤 H (W .laws) C) (known : Triple 𝓤 (C #step) (Step 𝓤 H A at-mem run)) where
     walk : Is (MutSlice (named 1) κ1 u8) p1 (v1 ∷ []) → Is (MutSlice (named 2) κ2 u8) p2 (v2 ∷ []) → Is (MutSlice (named 3) κ3 u16) p3 (v3 ∷ []) → Is (MutSlice (named 4) κ4 u16) p4 (v4 ∷ []) → Is (ShrSlice (named 5) κ5 u32) p5 (v5 ∷ []) → Is (ShrSlice (named 6) κ6 u16) p6 (v6 ∷ []) → ent 𝓤 (onEntry 𝓤 H A f.signature (κ0, (κ1, (κ2, (κ3, (κ4, (κ5, (κ6, tt))))))) (q0, (q1, (q2, (q3, (q4, (q5, (q6, tt))))))) x vals) (WpFn 𝓤 H C Λ code.function (vptr b o ∷ v1 ∷ v2 ∷ v3 ∷ v4 ∷ v5 ∷ v6 ∷ []) Post)
@@ -146,19 +158,19 @@ module _ {M : Type 1} (𝓤 : URA M) (H : Heap 𝓤) (A : Atoms 𝓤) (W : Given
         move ! (6 ∷ []) $ fsplit ! $ move ! (1 ∷ []) $ fsplit ! $ move ! (1 ∷ []) $ fsplit ! $ move ! (1 ∷ []) $ fsplit ! $ move ! (1 ∷ []) $ fsplit ! $ use1 W (‵ (ShrSlice (named 5) κ5 u32 .own p5 (v5 ∷ [])) ⊛ ‵ (ShrSlice (named 5) κ5 u32 .own p5 (v5 ∷ []))) (shr-slice-copy 𝓤 H A W (named 5) κ5 u32 .twice p5 (v5 ∷ [])) $ split ! $ move ! (2 ∷ []) $ fsplit ! $ use1 W (‵ (ShrSlice (named 6) κ6 u16 .own p6 (v6 ∷ [])) ⊛ ‵ (ShrSlice (named 6) κ6 u16 .own p6 (v6 ∷ []))) (shr-slice-copy 𝓤 H A W (named 6) κ6 u16 .twice p6 (v6 ∷ [])) $ split ! $ move ! (2 ∷ []) $ drop ! $
         move ! (13 ∷ 7 ∷ 6 ∷ 5 ∷ 4 ∷ 2 ∷ 0 ∷ []) $ group ! 7 $ use1 W (raw (Step 𝓤 H A at-mem run .pre to-step)) (goes (LL.owed T.the-type T′.the-laws h _ was .1 .0 .1)) $
         calls-at ! fm (Step 𝓤 H A at-mem run) known to-step (and-then ! (load ! (from ! (stop !)) (look ! 26 refl)) (and-then ! (load ! (from ! (stop !)) (look ! 20 refl)) (and-then ! (load ! (from ! (stop !)) (look ! 16 refl)) (and-then ! (load ! (from ! (stop !)) (look ! 12 refl)) (and-then ! (load ! (from ! (stop !)) (look ! 8 refl)) (and-then ! (load ! (from ! (stop !)) (look ! 30 refl)) (and-then ! (load ! (from ! (stop !)) (look ! 28 refl)) (no-more !)))))))) (λ w.
-        use1 W (later (some (λ (r : Validated). ((‵ (flft κ1 q1) ⊛ ‵ (flft κ2 q2) ⊛ ‵ (flft κ3 q3) ⊛ ‵ (flft κ4 q4) ⊛ ‵ (flft κ5 q5) ⊛ ‵ (flft κ6 q6) ⊛ ‵ ftrue) ⊛ ‵ (S.the-row .own r (w ∷ []))) ⊛ raw (ensured 𝓤 H A step.ended (step.clauses 𝓤 H A at-mem run) (κ1, (κ2, (κ3, (κ4, (κ5, (κ6, tt)))))) (n, (p1, (p2, (p3, (p4, (p5, (p6, tt))))))) tt r)))) (id⊢ 𝓤 _) $ await ! tt $ pick ! (λ r.
-        split ! $ move ! (1 ∷ []) $ use1 W (some (λ (ws : Unit {0} × (List ℕ × (List ℕ × (List ℕ × (List ℕ × (Unit {0} × (Unit {0} × Unit {0}))))))). ‵ (lasts step.ended (κ1, (κ2, (κ3, (κ4, (κ5, (κ6, tt)))))) (n, (p1, (p2, (p3, (p4, (p5, (p6, tt))))))) ws) ⊛ raw (fact 𝓤 (shownOf r (ws .1 .0) (ws .1 .1 .0) (ws .1 .1 .1 .0) (ws .1 .1 .1 .1 .0) ≡ shown (submission (lentOf n (p1 .now) (p2 .now) (p3 .now) (p4 .now)) (decode (pieceOf (p5 .now) (p6 .now)))))))) (id⊢ 𝓤 _) $ pick ! (λ ws.
-        split ! $ move ! (1 ∷ []) $ heard ! (shownOf r (ws .1 .0) (ws .1 .1 .0) (ws .1 .1 .1 .0) (ws .1 .1 .1 .1 .0) ≡ shown (submission (lentOf n (p1 .now) (p2 .now) (p3 .now) (p4 .now)) (decode (pieceOf (p5 .now) (p6 .now))))) (λ e. fsplit ! $ drop ! $ fsplit ! $ fsplit ! $ move ! (1 ∷ []) $ feqL ! (λ l1. move ! (1 ∷ []) $ fsplit ! $ fsplit ! $ move ! (1 ∷ []) $ feqL ! (λ l2. move ! (1 ∷ []) $ fsplit ! $ fsplit ! $ move ! (1 ∷ []) $ feqL ! (λ l3. move ! (1 ∷ []) $ fsplit ! $ fsplit ! $ move ! (1 ∷ []) $ feqL ! (λ l4. move ! (1 ∷ []) $ fsplit ! $ drop ! $ fsplit ! $ drop ! $ drop ! $
+        use1 W (later (some (λ (r : Numbered). ((‵ (flft κ1 q1) ⊛ ‵ (flft κ2 q2) ⊛ ‵ (flft κ3 q3) ⊛ ‵ (flft κ4 q4) ⊛ ‵ (flft κ5 q5) ⊛ ‵ (flft κ6 q6) ⊛ ‵ ftrue) ⊛ ‵ (S.the-row .own r (w ∷ []))) ⊛ raw (ensured 𝓤 H A step.ended (step.clauses 𝓤 H A at-mem run) (κ1, (κ2, (κ3, (κ4, (κ5, (κ6, tt)))))) (n, (p1, (p2, (p3, (p4, (p5, (p6, tt))))))) tt r)))) (id⊢ 𝓤 _) $ await ! tt $ pick ! (λ r.
+        split ! $ move ! (1 ∷ []) $ use1 W (some (λ (ws : Unit {0} × (List ℕ × (List ℕ × (List ℕ × (List ℕ × (Unit {0} × (Unit {0} × Unit {0}))))))). ‵ (lasts step.ended (κ1, (κ2, (κ3, (κ4, (κ5, (κ6, tt)))))) (n, (p1, (p2, (p3, (p4, (p5, (p6, tt))))))) ws) ⊛ raw (fact 𝓤 (Tells n (buffersOf (p1 .now) (p2 .now) (p3 .now) (p4 .now)) (pieceOf (p5 .now) (p6 .now)) r (buffersOf (ws .1 .0) (ws .1 .1 .0) (ws .1 .1 .1 .0) (ws .1 .1 .1 .1 .0)))))) (id⊢ 𝓤 _) $ pick ! (λ ws.
+        split ! $ move ! (1 ∷ []) $ heard ! (Tells n (buffersOf (p1 .now) (p2 .now) (p3 .now) (p4 .now)) (pieceOf (p5 .now) (p6 .now)) r (buffersOf (ws .1 .0) (ws .1 .1 .0) (ws .1 .1 .1 .0) (ws .1 .1 .1 .1 .0))) (λ e. fsplit ! $ drop ! $ fsplit ! $ fsplit ! $ move ! (1 ∷ []) $ feqL ! (λ l1. move ! (1 ∷ []) $ fsplit ! $ fsplit ! $ move ! (1 ∷ []) $ feqL ! (λ l2. move ! (1 ∷ []) $ fsplit ! $ fsplit ! $ move ! (1 ∷ []) $ feqL ! (λ l3. move ! (1 ∷ []) $ fsplit ! $ fsplit ! $ move ! (1 ∷ []) $ feqL ! (λ l4. move ! (1 ∷ []) $ fsplit ! $ drop ! $ fsplit ! $ drop ! $ drop ! $
         move ! (4 ∷ []) $ split ! $ move ! (1 ∷ []) $ peeks ! S.the-row (Is S.the-row) (shows 𝓤 H A S.the-row) r (w ∷ []) (λ is.
         -- [the result's; the slices' tokens; the last lists; the `&` slices'; the struct's cell; what it owns; the open borrow; obs; auth; _17; …]
         land ! (from ! (stop !)) (init ! 29 refl (LL.lawful S.the-type S′.the-laws 𝓤 H A W .typed r _ is .0)) $ rewrite ! 29 (λ (u : Val). ‵ (fat fullShare S′.mir c9 0 u)) (ap only (LL.tells S.the-type S′.the-laws r _ is)) refl $
         assigns ! (of-opd ! (load ! (from ! (fld ! refl (stop !))) (look-in ! 29 (sub ! 4 refl (whole !))))) (from ! (hop ! (look ! 45 refl) (fld ! refl (stop !)))) (store-in ! 8 (sub ! 1 refl (whole !)) (tt, record { fits = LL.owed S.the-type S′.the-laws r _ is .1 .1 .1 .1 .0 .1 })) $
-        assigns ! (of-opd ! (load ! (from ! (stop !)) (look ! 29 refl))) (from ! (stop !)) (init ! 47 refl (LL.lawful S.the-type S′.the-laws 𝓤 H A W .typed r _ (LL.owes S.the-type S′.the-laws r (LL.owed S.the-type S′.the-laws r _ is)) .0)) $
+        assigns ! (agg ! (and-then ! (load ! (from ! (fld ! refl (stop !))) (look-in ! 29 (sub ! 0 refl (whole !)))) (and-then ! (load ! (from ! (fld ! refl (stop !))) (look-in ! 29 (sub ! 1 refl (whole !)))) (and-then ! (load ! (from ! (fld ! refl (stop !))) (look-in ! 29 (sub ! 2 refl (whole !)))) (and-then ! (load ! (from ! (fld ! refl (stop !))) (look-in ! 29 (sub ! 3 refl (whole !)))) (no-more !)))))) (from ! (stop !)) (init ! 47 refl (LL.lawful U.the-type U′.the-laws 𝓤 H A W .typed (answer r) _ (answers r is) .0)) $
         owned ! T.the-row (Is T.the-row) ((LL.makes T.the-type T′.the-plain) 𝓤 H A) (h′ (r .counter)) _ (LL.owes T.the-type T′.the-laws (h′ (r .counter)) (LL.owed T.the-type T′.the-laws h _ was .0, ((refl, LL.owed S.the-type S′.the-laws r _ is .1 .1 .1 .1 .0 .1), tt))) $
         move ! (9 ∷ 0 ∷ 11 ∷ 12 ∷ 13 ∷ []) $ closes ! tt T.the-row (h′ (r .counter)) (LL.vals T.the-type T′.the-laws (h′ (r .counter))) b o $
         returns ! (look ! 46 refl) $ forget ! 12 refl $ forget ! 14 refl $ forget ! 16 refl $ forget ! 18 refl $ forget ! 20 refl $ forget ! 22 refl $ forget ! 24 refl $ forget ! 26 refl $ forget ! 28 refl $ forget ! 30 refl $ forget ! 32 refl $ forget ! 34 refl $ forget ! 36 refl $ forget ! 38 refl $ forget ! 40 refl $ forget ! 42 refl $ forget ! 44 refl $ forget ! 46 refl $
         move ! (46 ∷ 47 ∷ []) $ free1 ! $ move ! (44 ∷ 45 ∷ []) $ free1 ! $ move ! (42 ∷ 43 ∷ []) $ free1 ! $ move ! (40 ∷ 41 ∷ []) $ free1 ! $ move ! (38 ∷ 39 ∷ []) $ free1 ! $ move ! (36 ∷ 37 ∷ []) $ free1 ! $ move ! (34 ∷ 35 ∷ []) $ free1 ! $ move ! (32 ∷ 33 ∷ []) $ free1 ! $ move ! (30 ∷ 31 ∷ []) $ free1 ! $ move ! (28 ∷ 29 ∷ []) $ free1 ! $ move ! (26 ∷ 27 ∷ []) $ free1 ! $ move ! (24 ∷ 25 ∷ []) $ free1 ! $ move ! (22 ∷ 23 ∷ []) $ free1 ! $ move ! (20 ∷ 21 ∷ []) $ free1 ! $ move ! (18 ∷ 19 ∷ []) $ free1 ! $ move ! (16 ∷ 17 ∷ []) $ free1 ! $ move ! (14 ∷ 15 ∷ []) $ free1 ! $ move ! (12 ∷ 13 ∷ []) $ free1 ! $ free0 ! $
-        keep ! (0 ∷ 1 ∷ 2 ∷ 4 ∷ 5 ∷ 6 ∷ 7 ∷ 8 ∷ 9 ∷ 10 ∷ []) $ by ! (exits r (ws .1 .0) (ws .1 .1 .0) (ws .1 .1 .1 .0) (ws .1 .1 .1 .1 .0) e l1 l2 l3 l4 (LL.owes S.the-type S′.the-laws r (LL.owed S.the-type S′.the-laws r _ is))))))))))))))))))))))))))))))))
+        keep ! (0 ∷ 1 ∷ 2 ∷ 4 ∷ 5 ∷ 6 ∷ 7 ∷ 8 ∷ 9 ∷ 10 ∷ []) $ by ! (exits r (ws .1 .0) (ws .1 .1 .0) (ws .1 .1 .1 .0) (ws .1 .1 .1 .1 .0) e l1 l2 l3 l4 (answers r is)))))))))))))))))))))))))))))))
 
 module _ {M : Type 1} (𝓤 : URA M) (H : Heap 𝓤) (A : Atoms 𝓤) (W : Given 𝓤 H A) (at-mem : Memory → SProp 𝓤) (run : Routine → Fun 𝓤) where
   walks : (C : Calls 𝓤 H) (Λ : Loops 𝓤 H) → FmC 𝓤 H (W .laws) C → Triple 𝓤 (C #step) (Step 𝓤 H A at-mem run) → Walks 𝓤 H A f.ended stayed (WpFn 𝓤 H C Λ code.function) (f.clauses 𝓤 H A at-mem run)
