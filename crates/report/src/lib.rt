@@ -101,7 +101,8 @@ fn put_answer(
     lists: &[u16],
     out: &mut [u8],
 ) -> Printed
-    requires { ⌜ Lendable (now blases) (now tlases) (now entries) (now packages) (now actions) × (longestReport ≤ length (now out)) ⌝ }
+    requires { ⌜ Lendable (now blases) (now tlases) (now entries) (now packages) (now actions) ⌝ }
+    requires { ⌜ longestReport ≤ length (now out) ⌝ }
     requires { ⌜ (layout 5 .most ≤ length (now «blas_offsets»)) × (layout 7 .most ≤ length (now «tlas_offsets»)) ⌝ }
     requires { ⌜ (2 * layout 7 .most ≤ length (now «staging_ranges»)) × (came .lists ≤ length (now lists)) ⌝ }
     ensures { λ r. ⌜ Put (now (out .entry)) 0
@@ -164,7 +165,8 @@ fn put_built(
     actions: &[u8],
     out: &mut [u8],
 ) -> Printed
-    requires { ⌜ Lendable (now blases) (now tlases) (now entries) (now packages) (now actions) × (longestReport ≤ length (now out)) ⌝ }
+    requires { ⌜ Lendable (now blases) (now tlases) (now entries) (now packages) (now actions) ⌝ }
+    requires { ⌜ longestReport ≤ length (now out) ⌝ }
     ensures { λ r. ⌜ Put (now (out .entry)) 0
         (tableLines counter
         (tablesOf alignment (now (buffers .entry)) (now (blases .entry)) (now (declared .entry)) (now (tlases .entry))

@@ -27,7 +27,8 @@ ghost use Rattle.ray_tracing.specs.Submission.{counterOf, outcomeOf};
 ghost use Rattle.ray_tracing.specs.Parts.{packagesIn, entriesIn, listing};
 ghost use Rattle.report_text.specs.Put.{Put};
 ghost use Rattle.report_words.specs.Refused.{Refuses};
-ghost use Rattle.report_submit.specs.Parts.{actionsIn, kindOf, keptCells, allCells, places, lentParts, submissionOutcome, Lendable};
+ghost use Rattle.report_submit.specs.Parts.{actionsIn, kindOf, keptCells, allCells, places};
+ghost use Rattle.report_submit.specs.Parts.{lentParts, submissionOutcome, Lendable};
 
 // Where the text ends, and what it refuses.
 pub struct Printed {

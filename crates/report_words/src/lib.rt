@@ -25,7 +25,8 @@ ghost use Rattle.report_text.specs.Put.{Put};
 ghost use Rattle.report_words.specs.Refused.{refusedBy, wordsIn, Refuses};
 ghost use Rattle.report_words.specs.Longest.{longestExplanation};
 ghost use Rattle.report_words.specs.Lines.{numberFor, isNumber, letter, filled, pastLines, lines};
-ghost use Rattle.report_words.specs.Lines.{destroyedPlace, buildPlace, unbuiltPlace, actionPlace, appendPlace, linePlace};
+ghost use Rattle.report_words.specs.Lines.{destroyedPlace, buildPlace, unbuiltPlace, actionPlace};
+ghost use Rattle.report_words.specs.Lines.{appendPlace, linePlace};
 
 // The call that refuses, by its number (1 reads a sheet, 2 builds, 3 submits, 4 appends an instance), the refusal's number, place and
 // figures; an action is in E and its kind in F. Number 0 refuses nothing.
