@@ -13,7 +13,7 @@ use borrow.Author.Tests.{eq-eqb, ne-eqb, not-true, not-false}
 use Rattle.ray_tracing.specs.Layout.{layout, size}
 use Rattle.ray_tracing.specs.Records.{fieldAt}
 use Rattle.ray_tracing.specs.Plan.{Tables, recordsIn}
-use Rattle.ray_tracing.specs.Report.{submitNumbers, kept, actionCells, positions}
+use Rattle.ray_tracing.specs.Report.{submitNumbers, outcomeLines, kept, actionCells, positions}
 use Rattle.ray_tracing.specs.Explain.{outcomeRefusal}
 use Rattle.ray_tracing.specs.Parts.{listing}
 use Rattle.ray_tracing.specs.declared.Submitted.{Submitted}
@@ -136,18 +136,20 @@ zeros (suc n) (suc m) h = ap (λ (l : List ℕ). 0 ∷ l) (zeros n m (le-of-suc-
 
 -- ---- what is told of a submission
 
--- what is left of it is not told
-pub refusal-told :
-    (s : Submitted) (actions positions b t c d : List ℕ)
-    → outcomeRefusal actions positions (outcomeOf s [] [] [] []) ≡ outcomeRefusal actions positions (outcomeOf s b t c d)
-refusal-told s actions positions b t c d = go (answerOf s)
-  where
-    go :
-        (v : Answer)
-        → outcomeRefusal actions positions (v leaving lentOf (counterOf s) [] [] [] [])
-        ≡ outcomeRefusal actions positions (v leaving lentOf (counterOf s) b t c d)
-    go accepted = refl
-    go (refused i cause) = refl
+-- what it leaves is not told, but for the counter
+module _ (s : Submitted) (actions positions : List ℕ) {b t c d : List ℕ} {x : Outcome} (e : outcomeOf s b t c d ≡ x) where
+  pub lines-told : outcomeLines positions (outcomeOf s [] [] [] []) ≡ outcomeLines positions x
+  lines-told = ap (outcomeLines positions) e
+
+  pub refusal-told : outcomeRefusal actions positions (outcomeOf s [] [] [] []) ≡ outcomeRefusal actions positions x
+  refusal-told = go (answerOf s) ∙ ap (outcomeRefusal actions positions) e
+    where
+      go :
+          (v : Answer)
+          → outcomeRefusal actions positions (v leaving lentOf (counterOf s) [] [] [] [])
+          ≡ outcomeRefusal actions positions (v leaving lentOf (counterOf s) b t c d)
+      go accepted = refl
+      go (refused i cause) = refl
 
 -- the numbers of the line `submit` are those of the refusal
 pub numbers-told :

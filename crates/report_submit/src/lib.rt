@@ -143,7 +143,7 @@ fn position_of(recorded: bool, actions: &[u8], k: usize) -> usize
 fn kind_at(actions: &[u8], i: usize) -> u8
     ensures { λ r. ⌜ r ≡ kindOf (now (actions .entry)) i ⌝ }
 {
-    if i < (actions.len() + ACTION_SIZE - 1) / ACTION_SIZE {
+    if i < (actions.len() + 2) / ACTION_SIZE {
         return u8_at(actions, i * ACTION_SIZE);
     }
     0
