@@ -1,164 +1,156 @@
--- What judging found decides the answer, and what is left of each output.
+-- What judging found decides the answer; and the answer, what is written and what is left of each output.
 use mathlib.Core.Path.{_≡_, refl, sym, ap, _∙_}
-use mathlib.Core.Bool.{Bool, true, false, cond}
-use mathlib.Core.List.{List}
+use mathlib.Core.Bool.{Bool, true, false}
+use mathlib.Core.List.{[]}
 use Prim.Native.Nat.{ℕ, _<_}
 use native.Mathlib.Omega.{arith}
-use lib.Dec.{eqb}
 use lib.ListN.{length, getD}
+use Rattle.ray_tracing.specs.declared.Written.{Written}
 use Rattle.ray_tracing.specs.declared.BuildAccelerationStructureError.{BuildAccelerationStructureError}
-use Rattle.ray_tracing.specs.Causes.{Cause, bare, buildCause}
-use Rattle.ray_tracing.specs.Plan.{Tables, Verdict, passed, refused, on, _or_, judgeTables, judgeIds, judgeEntries, judgePackages, judgeFinal, scratchSize, Outputs, planOf, tooShort, short, countsOf, Building, recorded, nothing-recorded, not-built, unless, build, leaves, outputsOf}
-use Rattle.ray_tracing.proofs.Verdicts.{or-passed}
-use Rattle.ray_tracing.proofs.Inside.{Inside, inside}
+use Rattle.ray_tracing.specs.Causes.{bare, buildCause}
+use Rattle.ray_tracing.specs.Plan.{Tables, refused, on, Outputs, tooShort, short, countsOf, Building, recorded, nothing-recorded, unless, build, leaves}
+use Rattle.ray_tracing.specs.Plan as plan
+use Rattle.ray_tracing.proofs.Inside.{inside}
 use Rattle.build_judge.specs.declared.Judgement.{Judgement}
 use Rattle.build_judge.specs.declared.Judgement.the-variants as judgement
-use Rattle.build_judge.specs.Judging.{BuildJudged, nothing, to-record, judgementOf, judgeBuild}
-use Rattle.build_judge.specs.Judging as judging
-use Rattle.ray_tracing.specs.Parts.{entriesIn}
-use Rattle.build_ranges.specs.Ranges.{allRanges, DrawnFit}
+use Rattle.build_judge.specs.Judging.{BuildJudged, not-built, nothing, to-record, judgementOf, judgeBuild}
+use Rattle.build_judge.proofs.Answer.{Passed, nothing-passed, recorded-passed, answer-refused, answer-nothing, answer-recorded}
+use Rattle.build_ranges.specs.Ranges.{DrawnFit}
 use Rattle.build_plan.specs.Planned.{planned, Plannable}
 use Rattle.build_plan.proofs.Judged.{plan-is, geometries-drawn, plannable}
-use Rattle.build.specs.Room.{recordedIf, nothingIf, rangesLeft}
+use Rattle.build_plan.proofs.Lengths.{counts-any}
+use Rattle.build.specs.Room.{recordedIf, nothingIf, planFrom, rangesIn, Writes}
+use Rattle.build.proofs.Room.{fits, room-is}
 
--- ---- over plain values: v is judged first, z is no scratch, w is judged last, then y
+-- ---- an answer that room decides, by a test that it is short
 
-module _ (v : Verdict) (z : Bool) (w y : Verdict) (s : ℕ) (a r : Building) where
-  abbrev found : BuildJudged
-  found = judging.judgedUnless v (cond z nothing (judging.judgedUnless w (to-record s)))
+module _ (short-of : Bool) where
+  not-recorded : (cells n : ℕ) (w : Written) → unless (on short-of (refused 0 0 (bare 39))) (nothing-recorded cells) ≡ recorded n w → ⊥
+  not-recorded cells n w e = go short-of e
+    where
+      go : (t : Bool) → unless (on t (refused 0 0 (bare 39))) (nothing-recorded cells) ≡ recorded n w → ⊥
+      go true e = let z : _≡_ {A = ℕ} 0 1 = cc in omega arith
+      go false e = let z : _≡_ {A = ℕ} 0 1 = cc in omega arith
 
-  abbrev answer : Building
-  answer = unless v (cond z a (unless (w or y) r))
+  not-nothing : (size n : ℕ) (w : Written) → unless (on short-of (refused 0 0 (bare 39))) (recorded size w) ≡ nothing-recorded n → ⊥
+  not-nothing size n w e = go short-of e
+    where
+      go : (t : Bool) → unless (on t (refused 0 0 (bare 39))) (recorded size w) ≡ nothing-recorded n → ⊥
+      go true e = let z : _≡_ {A = ℕ} 0 1 = cc in omega arith
+      go false e = let z : _≡_ {A = ℕ} 0 1 = cc in omega arith
 
-refused-found :
-    (v : Verdict) (z : Bool) (w y : Verdict) (s : ℕ) (a r : Building) (e f : ℕ) (c : Cause)
-    → found v z w y s a r ≡ judging.not-built e f c
-    → not-built e f c ≡ answer v z w y s a r
-refused-found (refused i j d) z w y s a r e f c h = cc
-refused-found passed true w y s a r e f c h = let q : _≡_ {A = ℕ} 0 1 = cc in absurd (omega arith)
-refused-found passed false passed y s a r e f c h = let q : _≡_ {A = ℕ} 0 1 = cc in absurd (omega arith)
-refused-found passed false (refused i j d) y s a r e f c h = cc
+  some-recorded : (size n : ℕ) (v w : Written) → unless (on short-of (refused 0 0 (bare 39))) (recorded size v) ≡ recorded n w → short-of ≡ false
+  some-recorded size n v w e = go short-of e
+    where
+      go : (t : Bool) → unless (on t (refused 0 0 (bare 39))) (recorded size v) ≡ recorded n w → t ≡ false
+      go true e = let z : _≡_ {A = ℕ} 0 1 = cc in absurd (omega arith)
+      go false e = refl
 
-nothing-found :
-    (v : Verdict) (z : Bool) (w y : Verdict) (s : ℕ) (a r : Building)
-    → found v z w y s a r ≡ nothing
-    → (v ≡ passed) × (a ≡ answer v z w y s a r)
-nothing-found (refused i j d) z w y s a r h = let q : _≡_ {A = ℕ} 0 1 = cc in absurd (omega arith)
-nothing-found passed true w y s a r h = (refl, refl)
-nothing-found passed false passed y s a r h = let q : _≡_ {A = ℕ} 0 1 = cc in absurd (omega arith)
-nothing-found passed false (refused i j d) y s a r h = let q : _≡_ {A = ℕ} 0 1 = cc in absurd (omega arith)
+  some-nothing : (cells n : ℕ) → unless (on short-of (refused 0 0 (bare 39))) (nothing-recorded cells) ≡ nothing-recorded n → short-of ≡ false
+  some-nothing cells n e = go short-of e
+    where
+      go : (t : Bool) → unless (on t (refused 0 0 (bare 39))) (nothing-recorded cells) ≡ nothing-recorded n → t ≡ false
+      go true e = let z : _≡_ {A = ℕ} 0 1 = cc in absurd (omega arith)
+      go false e = refl
 
-record-found :
-    (v : Verdict) (z : Bool) (w y : Verdict) (s n : ℕ) (a r : Building)
-    → found v z w y s a r ≡ to-record n
-    → (v ≡ passed) × ((n ≡ s) × (unless y r ≡ answer v z w y s a r))
-record-found (refused i j d) z w y s n a r h = let q : _≡_ {A = ℕ} 0 1 = cc in absurd (omega arith)
-record-found passed true w y s n a r h = let q : _≡_ {A = ℕ} 0 1 = cc in absurd (omega arith)
-record-found passed false passed y s n a r h = (refl, (cc, refl))
-record-found passed false (refused i j d) y s n a r h = let q : _≡_ {A = ℕ} 0 1 = cc in absurd (omega arith)
+-- ---- what judging found
 
--- ---- a build
+module _ (x : Tables) where
+  plan-from : Passed x → planFrom x ≡ plan.planOf x
+  plan-from p = sym (plan-is x (p .entries))
 
-pub record Passed (x : Tables) : Type 0 where
-  pub inside : Inside x
-  pub entries : judgeEntries x ≡ passed
-  pub packages : judgePackages x ≡ passed
+  -- what was judged is what counting and writing ask; bytes are below 256
+  module _ (bytes : (k : ℕ) → getD (x .buffers) k 0 < 256) (p : Passed x) where
+    passed-drawn : DrawnFit (x .entries) (x .geometries)
+    passed-drawn = geometries-drawn x (inside x (p .tables) (p .ids)) (p .entries) bytes
 
-module _ (x : Tables) (o : Outputs) where
-  abbrev first : Verdict
-  first = judgeTables x or judgeIds x or judgeEntries x or judgePackages x
-
-  abbrev room : Verdict
-  room = on (tooShort (planOf x) o) (refused 0 0 (bare 39))
-
-  abbrev no-scratch : Bool
-  no-scratch = eqb (scratchSize x) 0
-
-  abbrev without : Building
-  without = nothingIf (planOf x .«init_ranges») (o .«init_ranges»)
-
-  abbrev with-all : Building
-  with-all = recorded (scratchSize x) (countsOf (planOf x))
-
-  all-passed : first ≡ passed → Passed x
-  all-passed e =
-      let a = or-passed (judgeTables x) _ e in
-      let b = or-passed (judgeIds x) _ (a .1) in
-      let c = or-passed (judgeEntries x) _ (b .1) in
-      record { inside = inside x (a .0) (b .0); entries = c .0; packages = c .1 }
+    passed-plannable : Plannable (x .alignment) (x .blases) (x .tlases) (x .entries) (x .geometries) (x .packages) (x .slots)
+    passed-plannable = plannable x (inside x (p .tables) (p .ids)) (p .entries) bytes (p .packages)
 
   module _ {j : Judgement} (k : judgementOf j ≡ judgeBuild x) where
-    -- refused: nothing is written
-    pub refused-build :
-        (c : BuildAccelerationStructureError) (e f : ℕ)
-        → j ≡ judgement.Refused c e f
-        → (not-built e f (buildCause c) ≡ build x o) × (o ≡ leaves (build x o) (planOf x) o)
-    unfolding build judgeBuild judging.judgeToPackages
-    refused-build c e f h =
-        let a = refused-found first no-scratch (judgeFinal x) room (scratchSize x) without with-all e f (buildCause c) (sym k ∙ ap judgementOf h) in
-        (a, ap (λ (b : Building). leaves b (planOf x) o) a)
+    told : {i : Judgement} → j ≡ i → judgeBuild x ≡ judgementOf i
+    told h = sym k ∙ ap judgementOf h
 
-    nothing-answer : j ≡ judgement.Nothing → (first ≡ passed) × (without ≡ build x o)
-    unfolding build judgeBuild judging.judgeToPackages
-    nothing-answer h = nothing-found first no-scratch (judgeFinal x) room (scratchSize x) without with-all (sym k ∙ ap judgementOf h)
+    pub nothing-drawn : ((k : ℕ) → getD (x .buffers) k 0 < 256) → j ≡ judgement.Nothing → DrawnFit (x .entries) (x .geometries)
+    nothing-drawn bytes h = passed-drawn bytes (nothing-passed x (told h))
 
-    record-answer : (n : ℕ) → j ≡ judgement.ToRecord n → (first ≡ passed) × (recordedIf n (planOf x) o ≡ build x o)
-    unfolding build judgeBuild judging.judgeToPackages
-    record-answer n h =
-        let a = record-found first no-scratch (judgeFinal x) room (scratchSize x) n without with-all (sym k ∙ ap judgementOf h) in
-        (a .0, ap (λ (s : ℕ). unless room (recorded s (countsOf (planOf x)))) (a .1 .0) ∙ a .1 .1)
-
-    pub nothing-passed : j ≡ judgement.Nothing → Passed x
-    nothing-passed h = all-passed (nothing-answer h .0)
-
-    pub record-passed : (n : ℕ) → j ≡ judgement.ToRecord n → Passed x
-    record-passed n h = all-passed (record-answer n h .0)
-
-    -- recorded, or 39
-    pub record-build :
-        {b : Building} {o′ : Outputs} (n : ℕ)
+    pub record-plannable :
+        ((k : ℕ) → getD (x .buffers) k 0 < 256)
+        → (n : ℕ)
         → j ≡ judgement.ToRecord n
-        → b ≡ recordedIf n (planned (x .alignment) (x .blases) (x .tlases) (x .entries) (x .geometries) (x .packages) (x .slots)) o
-        → o′ ≡ leaves b (planned (x .alignment) (x .blases) (x .tlases) (x .entries) (x .geometries) (x .packages) (x .slots)) o
-        → (b ≡ build x o) × (o′ ≡ leaves (build x o) (planOf x) o)
-    record-build n h e f =
-        let p = sym (plan-is x (record-passed n h .entries)) in
-        let a = e ∙ ap (λ (q : Outputs). recordedIf n q o) p ∙ record-answer n h .1 in
-        (a, f ∙ (λ i. leaves (a i) (p i) o))
+        → Plannable (x .alignment) (x .blases) (x .tlases) (x .entries) (x .geometries) (x .packages) (x .slots)
+    record-plannable bytes n h = passed-plannable bytes (recorded-passed x n (told h))
 
-    -- nothing recorded, or 39
-    pub nothing-build :
-        {b : Building} {ranges : List ℕ}
-        → j ≡ judgement.Nothing
-        → b ≡ nothingIf (allRanges (x .entries) (x .geometries) 0 0 (entriesIn (x .entries))) (o .«init_ranges»)
-        → ranges ≡ rangesLeft b (allRanges (x .entries) (x .geometries) 0 0 (entriesIn (x .entries))) (o .«init_ranges»)
-        → (b ≡ build x o)
-        × (outputsOf (o .«blas_offsets») (o .«tlas_offsets») (o .«staging_ranges») (o .instances) ranges (o .compactable) (o .lists)
-        ≡ leaves (build x o) (planOf x) o)
-    nothing-build {b} {ranges} h e f =
-        let p = ap (λ (q : Outputs). q .«init_ranges») (sym (plan-is x (nothing-passed h .entries))) in
-        let a = e ∙ ap (λ (l : List ℕ). nothingIf l (o .«init_ranges»)) p ∙ nothing-answer h .1 in
-        let g = f ∙ (λ i. rangesLeft ((e ∙ ap (λ (l : List ℕ). nothingIf l (o .«init_ranges»)) p) i) (p i) (o .«init_ranges»)) in (
-          a,
-          ap (λ (l : List ℕ). outputsOf (o .«blas_offsets») (o .«tlas_offsets») (o .«staging_ranges») (o .instances) l (o .compactable) (o .lists)) g
-              ∙ only-ranges (on (short (planOf x .«init_ranges») (o .«init_ranges»)) (refused 0 0 (bare 39)))
-              ∙ ap (λ (q : Building). leaves q (planOf x) o) (nothing-answer h .1),
-        )
-      where
-        only-ranges :
-            (v : Verdict)
-            → outputsOf (o .«blas_offsets») (o .«tlas_offsets») (o .«staging_ranges») (o .instances) (rangesLeft (unless v (nothing-recorded (length (planOf x .«init_ranges»)))) (planOf x .«init_ranges») (o .«init_ranges»)) (o .compactable) (o .lists)
-            ≡ leaves (unless v (nothing-recorded (length (planOf x .«init_ranges»)))) (planOf x) o
-        only-ranges passed = refl
-        only-ranges (refused e f c) = refl
+    pub refused-build :
+        (o : Outputs) (c : BuildAccelerationStructureError) (e f : ℕ)
+        → j ≡ judgement.Refused c e f
+        → plan.not-built e f (buildCause c) ≡ build x o
+    refused-build o c e f h = sym (answer-refused x o e f (buildCause c) (told h))
 
-    -- what was judged is what writing asks; bytes are below 256
-    module _ (bytes : (k : ℕ) → getD (x .buffers) k 0 < 256) where
-      pub nothing-drawn : j ≡ judgement.Nothing → DrawnFit (x .entries) (x .geometries)
-      nothing-drawn h = geometries-drawn x (nothing-passed h .inside) (nothing-passed h .entries) bytes
+    module _ (o : Outputs) {lent : Written} (l : countsOf o ≡ lent) where
+      -- nothing recorded, or 39
+      pub nothing-build :
+          {n : ℕ} → j ≡ judgement.Nothing → n ≡ length (rangesIn x) → nothingIf n (lent .«init_ranges») ≡ build x o
+      nothing-build h e =
+          let cells = e ∙ ap (λ (p : Outputs). length (p .«init_ranges»)) (plan-from (nothing-passed x (told h))) in
+          (λ i. nothingIf (cells i) (sym l i .«init_ranges»)) ∙ sym (answer-nothing x o (told h))
 
-      pub record-plannable :
-          (n : ℕ) → j ≡ judgement.ToRecord n → Plannable (x .alignment) (x .blases) (x .tlases) (x .entries) (x .geometries) (x .packages) (x .slots)
-      record-plannable n h =
-          let p = record-passed n h in
-          plannable x (p .inside) (p .entries) bytes (p .packages)
+      -- recorded, or 39
+      pub record-build :
+          {w : Written} (n : ℕ)
+          → j ≡ judgement.ToRecord n
+          → w ≡ countsOf (planned 0 (x .blases) [] (x .entries) (x .geometries) (x .packages) (x .slots))
+          → recordedIf n w lent ≡ build x o
+      record-build n h e =
+          let all = e ∙ counts-any (x .alignment) (x .blases) (x .tlases) (x .entries) (x .geometries) (x .packages) (x .slots) in
+          let counts = all ∙ ap countsOf (plan-from (recorded-passed x n (told h))) in
+          (λ i. recordedIf n (counts i) (sym l i)) ∙ sym (answer-recorded x o n (told h))
+
+-- ---- what is written
+
+module _ (x : Tables) (o : Outputs) where
+  left-by : (j : BuildJudged) → judgeBuild x ≡ j → leaves (build x o) (planFrom x) o ≡ leaves (build x o) (plan.planOf x) o
+  left-by (not-built e f c) h = rw (answer-refused x o e f c h)
+  left-by nothing h = ap (λ (p : Outputs). leaves (build x o) p o) (plan-from x (nothing-passed x h))
+  left-by (to-record n) h = ap (λ (p : Outputs). leaves (build x o) p o) (plan-from x (recorded-passed x n h))
+
+  -- what is left is what the plan leaves
+  pub left-is : {b : Building} → b ≡ build x o → leaves b (planFrom x) o ≡ plan.outputsAfter x o
+  left-is e = ap (λ (b : Building). leaves b (planFrom x) o) e ∙ left-by (judgeBuild x) refl
+
+  module _ (bytes : (k : ℕ) → getD (x .buffers) k 0 < 256) where
+    writes-by : (j : BuildJudged) → judgeBuild x ≡ j → Writes (build x o) x o
+    writes-by (not-built e f c) h =
+        record {
+          plan = λ n w q. let r = answer-refused x o e f c h in let z : _≡_ {A = ℕ} 0 1 = cc in absurd (omega arith);
+          ranges = λ n q. let r = answer-refused x o e f c h in let z : _≡_ {A = ℕ} 0 1 = cc in absurd (omega arith);
+        }
+    writes-by nothing h =
+        let p = nothing-passed x h in
+        let r = sym (answer-nothing x o h) in
+        record {
+          plan = λ n w q. absurd (not-recorded (short (plan.planOf x .«init_ranges») (o .«init_ranges»)) _ n w (r ∙ q));
+          ranges =
+              λ n q. (
+                passed-drawn x bytes p,
+                fits (rangesIn x) (o .«init_ranges»)
+                    (ap (λ (y : Outputs). short (y .«init_ranges») (o .«init_ranges»)) (plan-from x p)
+                    ∙ some-nothing (short (plan.planOf x .«init_ranges») (o .«init_ranges»)) _ n (r ∙ q)),
+              );
+        }
+    writes-by (to-record m) h =
+        let p = recorded-passed x m h in
+        let r = sym (answer-recorded x o m h) in
+        record {
+          plan =
+              λ n w q. (
+                passed-plannable x bytes p,
+                room-is (planFrom x) o
+                    (ap (λ (y : Outputs). tooShort y o) (plan-from x p) ∙ some-recorded (tooShort (plan.planOf x) o) m n _ w (r ∙ q)),
+              );
+          ranges = λ n q. absurd (not-nothing (tooShort (plan.planOf x) o) m n _ (r ∙ q));
+        }
+
+    -- what an answer may write was judged, and has room
+    pub writes : {b : Building} → b ≡ build x o → Writes b x o
+    writes e = rw e (writes-by (judgeBuild x) refl)

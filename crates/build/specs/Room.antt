@@ -1,13 +1,16 @@
--- "Last: 39", by the counts and the lengths of what is lent. Assumes nothing.
-use Prim.Native.Nat.{ℕ}
+-- "Last: 39", by the counts and the lengths of what is lent; and what writing asks of an answer. Assumes nothing.
+use Prim.Native.Nat.{ℕ, _≤_}
+use mathlib.Core.Path.{_≡_}
 use mathlib.Core.Bool.{Bool, _||_}
 use mathlib.Core.List.{List}
 use lib.ListN.{length}
-use lib.Seq.{sets}
 use lib.Dec.{ltb}
 use Rattle.ray_tracing.specs.declared.Written.{Written}
 use Rattle.ray_tracing.specs.Causes.{bare}
-use Rattle.ray_tracing.specs.Plan.{Tables, Outputs, planOf, build, leaves, refused, on, tooShort, short, countsOf, Building, recorded, nothing-recorded, not-built, unless}
+use Rattle.ray_tracing.specs.Plan.{Tables, Outputs, refused, on, Building, recorded, nothing-recorded, unless}
+use Rattle.ray_tracing.specs.Parts.{entriesIn}
+use Rattle.build_ranges.specs.Ranges.{allRanges, DrawnFit}
+use Rattle.build_plan.specs.Planned.{planned, Plannable, PlanRoom}
 
 abbrev pub shortOf : Written → Written → Bool
 shortOf w lent =
@@ -19,15 +22,28 @@ shortOf w lent =
     || (ltb (lent .compactable) (w .compactable) || ltb (lent .lists) (w .lists))))))
 
 -- with room for what is written, recorded
-abbrev pub recordedIf : ℕ → Outputs → Outputs → Building
-recordedIf size p o = unless (on (tooShort p o) (refused 0 0 (bare 39))) (recorded size (countsOf p))
+abbrev pub recordedIf : ℕ → Written → Written → Building
+recordedIf size w lent = unless (on (shortOf w lent) (refused 0 0 (bare 39))) (recorded size w)
 
--- with room for the initialisation ranges, nothing recorded
-abbrev pub nothingIf : List ℕ → List ℕ → Building
-nothingIf ranges lent = unless (on (short ranges lent) (refused 0 0 (bare 39))) (nothing-recorded (length ranges))
+-- with room for the cells of the initialisation ranges, nothing recorded
+abbrev pub nothingIf : ℕ → ℕ → Building
+nothingIf cells lent = unless (on (ltb lent cells) (refused 0 0 (bare 39))) (nothing-recorded cells)
 
--- the ranges' output after it: a refusal writes none
-abbrev pub rangesLeft : Building → List ℕ → List ℕ → List ℕ
-rangesLeft (recorded n w) ranges lent = sets lent 0 ranges
-rangesLeft (nothing-recorded n) ranges lent = sets lent 0 ranges
-rangesLeft (not-built e f c) ranges lent = lent
+-- what is written, from the sections that it looks at
+abbrev pub planFrom : Tables → Outputs
+planFrom x = planned (x .alignment) (x .blases) (x .tlases) (x .entries) (x .geometries) (x .packages) (x .slots)
+
+abbrev pub rangesIn : Tables → List ℕ
+rangesIn x = allRanges (x .entries) (x .geometries) 0 0 (entriesIn (x .entries))
+
+-- what an answer may write was judged, and has room
+pub record Writes (b : Building) (x : Tables) (o : Outputs) : Type 0 where
+  pub plan :
+      (n : ℕ) (w : Written)
+      → b ≡ recorded n w
+      → Plannable (x .alignment) (x .blases) (x .tlases) (x .entries) (x .geometries) (x .packages) (x .slots)
+      × PlanRoom (planFrom x) o
+  pub ranges :
+      (n : ℕ)
+      → b ≡ nothing-recorded n
+      → DrawnFit (x .entries) (x .geometries) × (length (rangesIn x) ≤ length (o .«init_ranges»))

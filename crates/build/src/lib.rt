@@ -9,13 +9,9 @@ use ray_tracing::BuildAccelerationStructureError;
 use ray_tracing::Built;
 use ray_tracing::Written;
 ghost use mathlib.Core.Path.{_≡_};
-ghost use lib.ListN.{length};
-ghost use lib.Seq.{sets};
-ghost use Rattle.ray_tracing.specs.Plan.{buildingOf, build, leaves, tablesOf, outputsOf, outputsAfter};
-ghost use Rattle.ray_tracing.specs.Parts.{entriesIn};
-ghost use Rattle.build_ranges.specs.Ranges.{allRanges, DrawnFit};
-ghost use Rattle.build_plan.specs.Planned.{planned, Plannable};
-ghost use Rattle.build.specs.Room.{shortOf, recordedIf, nothingIf, rangesLeft};
+ghost use mathlib.Core.List.{[]};
+ghost use Rattle.ray_tracing.specs.Plan.{Outputs, tablesOf, outputsOf, countsOf, build, buildingOf, leaves, Builds};
+ghost use Rattle.build.specs.Room.{shortOf, recordedIf, nothingIf, planFrom, Writes};
 
 // Whether an output is too short: what would be written, and what is lent.
 fn too_short(w: Written, lent: Written) -> bool
@@ -42,23 +38,82 @@ fn too_short(w: Written, lent: Written) -> bool
     lent.lists < w.lists
 }
 
-// Nothing to record: only the initialisation ranges, 39 if they do not fit.
-fn record_nothing(entries: &[u8], geometries: &[u8], init_ranges: &mut [u64]) -> Built
-    requires { ⌜ DrawnFit (now entries) (now geometries) ⌝ }
-    ensures { λ r. ⌜ buildingOf r ≡ nothingIf (allRanges (now (entries .entry)) (now (geometries .entry)) 0 0 (entriesIn (now (entries .entry)))) (now («init_ranges» .entry)) ⌝ }
-    ensures { λ r. ⌜ now («init_ranges» .exit) ≡ rangesLeft (buildingOf r) (allRanges (now (entries .entry)) (now (geometries .entry)) 0 0 (entriesIn (now (entries .entry)))) (now («init_ranges» .entry)) ⌝ }
+// Recorded, 39 if an output does not fit.
+fn recorded_if(size: u64, w: Written, lent: Written) -> Built
+    ensures { λ r. ⌜ buildingOf r ≡ recordedIf size w lent ⌝ }
 {
-    let n = count_ranges(entries, geometries);
-    if init_ranges.len() < n {
+    if too_short(w, lent) {
         return Built::Refused(BuildAccelerationStructureError::OutputTooShort, 0, 0);
     }
-    write_init_ranges(entries, geometries, init_ranges);
-    Built::NothingRecorded(n)
+    Built::Recorded(size, w)
 }
 
-// All outputs, 39 if one does not fit.
-fn record_plan(
-    size: u64,
+// Nothing recorded, 39 if the initialisation ranges do not fit.
+fn nothing_if(cells: usize, lent: usize) -> Built
+    ensures { λ r. ⌜ buildingOf r ≡ nothingIf cells lent ⌝ }
+{
+    if lent < cells {
+        return Built::Refused(BuildAccelerationStructureError::OutputTooShort, 0, 0);
+    }
+    Built::NothingRecorded(cells)
+}
+
+// The answer, for outputs of these lengths.
+fn judge(
+    alignment: u32,
+    buffers: &[u8],
+    blases: &[u8],
+    declared: &[u8],
+    tlases: &[u8],
+    entries: &[u8],
+    geometries: &[u8],
+    packages: &[u8],
+    slots: &[u8],
+    lent: Written,
+) -> Built
+    ensures { λ r. ⌜
+        ((o : Outputs)
+        → countsOf o ≡ lent
+        → buildingOf r
+        ≡ build
+        (tablesOf
+        alignment
+        (now (buffers .entry))
+        (now (blases .entry))
+        (now (declared .entry))
+        (now (tlases .entry))
+        (now (entries .entry))
+        (now (geometries .entry))
+        (now (packages .entry))
+        (now (slots .entry)))
+        o)
+        ⌝ }
+{
+    let judged = judge_build(
+        alignment,
+        buffers,
+        blases,
+        declared,
+        tlases,
+        entries,
+        geometries,
+        packages,
+        slots,
+    );
+    match judged {
+        Judgement::Refused(error, e, f) => Built::Refused(error, e, f),
+        Judgement::Nothing => nothing_if(count_ranges(entries, geometries), lent.init_ranges),
+        Judgement::ToRecord(size) => recorded_if(
+            size,
+            counts(blases, entries, geometries, packages, slots),
+            lent,
+        ),
+    }
+}
+
+// What the answer says is written: a refusal writes nothing.
+fn write(
+    built: Built,
     alignment: u32,
     blases: &[u8],
     tlases: &[u8],
@@ -73,44 +128,72 @@ fn record_plan(
     init_ranges: &mut [u64],
     compactable: &mut [u16],
     lists: &mut [u16],
-) -> Built
-    requires { ⌜ Plannable alignment (now blases) (now tlases) (now entries) (now geometries) (now packages) (now slots) ⌝ }
-    ensures { λ r. ⌜ buildingOf r ≡ recordedIf size (planned alignment (now (blases .entry)) (now (tlases .entry)) (now (entries .entry)) (now (geometries .entry)) (now (packages .entry)) (now (slots .entry)))
-        (outputsOf (now («blas_offsets» .entry)) (now («tlas_offsets» .entry)) (now («staging_ranges» .entry)) (now (instances .entry)) (now («init_ranges» .entry)) (now (compactable .entry)) (now (lists .entry))) ⌝ }
-    ensures { λ r. ⌜ outputsOf (now («blas_offsets» .exit)) (now («tlas_offsets» .exit)) (now («staging_ranges» .exit)) (now (instances .exit)) (now («init_ranges» .exit)) (now (compactable .exit)) (now (lists .exit))
-        ≡ leaves (buildingOf r) (planned alignment (now (blases .entry)) (now (tlases .entry)) (now (entries .entry)) (now (geometries .entry)) (now (packages .entry)) (now (slots .entry)))
-        (outputsOf (now («blas_offsets» .entry)) (now («tlas_offsets» .entry)) (now («staging_ranges» .entry)) (now (instances .entry)) (now («init_ranges» .entry)) (now (compactable .entry)) (now (lists .entry))) ⌝ }
+)
+    requires { ⌜
+        Writes
+        (buildingOf built)
+        (tablesOf alignment [] (now blases) [] (now tlases) (now entries) (now geometries) (now packages) (now slots))
+        (outputsOf
+        (now «blas_offsets»)
+        (now «tlas_offsets»)
+        (now «staging_ranges»)
+        (now instances)
+        (now «init_ranges»)
+        (now compactable)
+        (now lists))
+        ⌝ }
+    ensures { λ _. ⌜
+        outputsOf
+        (now («blas_offsets» .exit))
+        (now («tlas_offsets» .exit))
+        (now («staging_ranges» .exit))
+        (now (instances .exit))
+        (now («init_ranges» .exit))
+        (now (compactable .exit))
+        (now (lists .exit))
+        ≡ leaves
+        (buildingOf built)
+        (planFrom
+        (tablesOf
+        alignment
+        []
+        (now (blases .entry))
+        []
+        (now (tlases .entry))
+        (now (entries .entry))
+        (now (geometries .entry))
+        (now (packages .entry))
+        (now (slots .entry))))
+        (outputsOf
+        (now («blas_offsets» .entry))
+        (now («tlas_offsets» .entry))
+        (now («staging_ranges» .entry))
+        (now (instances .entry))
+        (now («init_ranges» .entry))
+        (now (compactable .entry))
+        (now (lists .entry)))
+        ⌝ }
 {
-    let w = counts(blases, entries, geometries, packages, slots);
-    let lent = Written {
-        blas_offsets: blas_offsets.len(),
-        tlas_offsets: tlas_offsets.len(),
-        staging_ranges: staging_ranges.len(),
-        instances: instances.len(),
-        init_ranges: init_ranges.len(),
-        compactable: compactable.len(),
-        lists: lists.len(),
-    };
-    if too_short(w, lent) {
-        return Built::Refused(BuildAccelerationStructureError::OutputTooShort, 0, 0);
+    match built {
+        Built::Recorded(_, _) => write_plan(
+            alignment,
+            blases,
+            tlases,
+            entries,
+            geometries,
+            packages,
+            slots,
+            blas_offsets,
+            tlas_offsets,
+            staging_ranges,
+            instances,
+            init_ranges,
+            compactable,
+            lists,
+        ),
+        Built::NothingRecorded(_) => write_init_ranges(entries, geometries, init_ranges),
+        Built::Refused(_, _, _) => {}
     }
-    write_plan(
-        alignment,
-        blases,
-        tlases,
-        entries,
-        geometries,
-        packages,
-        slots,
-        blas_offsets,
-        tlas_offsets,
-        staging_ranges,
-        instances,
-        init_ranges,
-        compactable,
-        lists,
-    );
-    Built::Recorded(size, w)
 }
 
 pub fn build_acceleration_structures(
@@ -131,14 +214,47 @@ pub fn build_acceleration_structures(
     compactable: &mut [u16],
     lists: &mut [u16],
 ) -> Built
-    ensures { λ r. ⌜ buildingOf r
-        ≡ build (tablesOf alignment (now (buffers .entry)) (now (blases .entry)) (now (declared .entry)) (now (tlases .entry)) (now (entries .entry)) (now (geometries .entry)) (now (packages .entry)) (now (slots .entry)))
-        (outputsOf (now («blas_offsets» .entry)) (now («tlas_offsets» .entry)) (now («staging_ranges» .entry)) (now (instances .entry)) (now («init_ranges» .entry)) (now (compactable .entry)) (now (lists .entry))) ⌝ }
-    ensures { λ _. ⌜ outputsOf (now («blas_offsets» .exit)) (now («tlas_offsets» .exit)) (now («staging_ranges» .exit)) (now (instances .exit)) (now («init_ranges» .exit)) (now (compactable .exit)) (now (lists .exit))
-        ≡ outputsAfter (tablesOf alignment (now (buffers .entry)) (now (blases .entry)) (now (declared .entry)) (now (tlases .entry)) (now (entries .entry)) (now (geometries .entry)) (now (packages .entry)) (now (slots .entry)))
-        (outputsOf (now («blas_offsets» .entry)) (now («tlas_offsets» .entry)) (now («staging_ranges» .entry)) (now (instances .entry)) (now («init_ranges» .entry)) (now (compactable .entry)) (now (lists .entry))) ⌝ }
+    ensures { λ r. ⌜
+        Builds
+        (tablesOf
+        alignment
+        (now (buffers .entry))
+        (now (blases .entry))
+        (now (declared .entry))
+        (now (tlases .entry))
+        (now (entries .entry))
+        (now (geometries .entry))
+        (now (packages .entry))
+        (now (slots .entry)))
+        (outputsOf
+        (now («blas_offsets» .entry))
+        (now («tlas_offsets» .entry))
+        (now («staging_ranges» .entry))
+        (now (instances .entry))
+        (now («init_ranges» .entry))
+        (now (compactable .entry))
+        (now (lists .entry)))
+        (buildingOf r)
+        (outputsOf
+        (now («blas_offsets» .exit))
+        (now («tlas_offsets» .exit))
+        (now («staging_ranges» .exit))
+        (now (instances .exit))
+        (now («init_ranges» .exit))
+        (now (compactable .exit))
+        (now (lists .exit)))
+        ⌝ }
 {
-    let judged = judge_build(
+    let lent = Written {
+        blas_offsets: blas_offsets.len(),
+        tlas_offsets: tlas_offsets.len(),
+        staging_ranges: staging_ranges.len(),
+        instances: instances.len(),
+        init_ranges: init_ranges.len(),
+        compactable: compactable.len(),
+        lists: lists.len(),
+    };
+    let built = judge(
         alignment,
         buffers,
         blases,
@@ -148,26 +264,24 @@ pub fn build_acceleration_structures(
         geometries,
         packages,
         slots,
+        lent,
     );
-    match judged {
-        Judgement::Refused(error, e, f) => Built::Refused(error, e, f),
-        Judgement::Nothing => record_nothing(entries, geometries, init_ranges),
-        Judgement::ToRecord(size) => record_plan(
-            size,
-            alignment,
-            blases,
-            tlases,
-            entries,
-            geometries,
-            packages,
-            slots,
-            blas_offsets,
-            tlas_offsets,
-            staging_ranges,
-            instances,
-            init_ranges,
-            compactable,
-            lists,
-        ),
-    }
+    write(
+        built,
+        alignment,
+        blases,
+        tlases,
+        entries,
+        geometries,
+        packages,
+        slots,
+        blas_offsets,
+        tlas_offsets,
+        staging_ranges,
+        instances,
+        init_ranges,
+        compactable,
+        lists,
+    );
+    built
 }

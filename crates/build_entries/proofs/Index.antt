@@ -13,6 +13,7 @@ use lib.Dec.{ltb, eqb}
 use borrow.Author.Tests.{lt-ltb, le-ltb, eq-eqb, ne-eqb, eqb-true, eqb-false, ltb-true, ltb-false}
 use Rattle.ray_tracing.specs.declared.BlasGeometrySizeDescriptor.{BlasGeometrySizeDescriptor}
 use Rattle.ray_tracing.specs.Records.{declaredAt}
+use Rattle.ray_tracing.specs.Layout.{size}
 use Rattle.ray_tracing.specs.Plan.{declaredFrom, nth}
 use Rattle.build_entries.specs.Index.{declaredIn, blasOfDeclared, nthFrom, nthOf, standing, Heads, Nexts, following}
 
@@ -49,12 +50,12 @@ module _ (t : List ℕ) (blas : ℕ) where
 
   -- what stands at k, of the declared geometries before n
   abbrev standingBelow : ℕ → ℕ → Option BlasGeometrySizeDescriptor
-  standingBelow n k = cond (ltb k n) (some (declaredAt t (k * 18))) none
+  standingBelow n k = cond (ltb k n) (some (declaredAt t (k * size 3))) none
 
   none-at-end : (n k : ℕ) → n ≤ k → none ≡ standingBelow n k
   none-at-end n k h = rw (le-ltb k n h)
 
-  some-below : (n k : ℕ) → k < n → some (declaredAt t (k * 18)) ≡ standingBelow n k
+  some-below : (n k : ℕ) → k < n → some (declaredAt t (k * size 3)) ≡ standingBelow n k
   some-below n k h = rw (lt-ltb k n h)
 
   abbrev rest : ℕ → ℕ → List BlasGeometrySizeDescriptor
@@ -67,7 +68,7 @@ module _ (t : List ℕ) (blas : ℕ) where
       let e : i + 1 + m ≡ i + suc m = omega arith in
       by-bool
       (λ (b : Bool).
-      nth (cond b (declaredAt t (i * 18) ∷ rest (i + 1) m) (rest (i + 1) m)) zero
+      nth (cond b (declaredAt t (i * size 3) ∷ rest (i + 1) m) (rest (i + 1) m)) zero
       ≡ standingBelow (i + suc m) (cond b i (at (i + 1) m zero)))
       (here i)
       (λ p. some-below (i + suc m) i (omega arith))
@@ -76,7 +77,7 @@ module _ (t : List ℕ) (blas : ℕ) where
       let e : i + 1 + m ≡ i + suc m = omega arith in
       by-bool
       (λ (b : Bool).
-      nth (cond b (declaredAt t (i * 18) ∷ rest (i + 1) m) (rest (i + 1) m)) (suc j)
+      nth (cond b (declaredAt t (i * size 3) ∷ rest (i + 1) m) (rest (i + 1) m)) (suc j)
       ≡ standingBelow (i + suc m) (cond b (at (i + 1) m j) (at (i + 1) m (suc j))))
       (here i)
       (λ p. nth-standing m (i + 1) j ∙ ap (λ (n : ℕ). standingBelow n (at (i + 1) m j)) e)

@@ -8,7 +8,7 @@ use mathlib.Core.List.{List}
 use lib.ListN.{length, getD}
 use lib.Dec.{ltb, eqb}
 use Rattle.ray_tracing.specs.declared.BlasGeometrySizeDescriptor.{BlasGeometrySizeDescriptor}
-use Rattle.ray_tracing.specs.Layout.{size}
+use Rattle.ray_tracing.specs.Layout.{layout, size}
 use Rattle.ray_tracing.specs.Records.{fieldAt, declaredAt}
 
 -- how many declared geometries there are, and the Blas of one
@@ -22,7 +22,8 @@ blasOfDeclared t k = fieldAt 3 t (k * size 3) 0
 unfoldable pub nthFrom : List ℕ → ℕ → ℕ → ℕ → ℕ → ℕ
 nthFrom t blas i zero j = i
 nthFrom t blas i (suc m) zero = cond (eqb (blasOfDeclared t i) blas) i (nthFrom t blas (i + 1) m zero)
-nthFrom t blas i (suc m) (suc j) = cond (eqb (blasOfDeclared t i) blas) (nthFrom t blas (i + 1) m j) (nthFrom t blas (i + 1) m (suc j))
+nthFrom t blas i (suc m) (suc j) =
+    cond (eqb (blasOfDeclared t i) blas) (nthFrom t blas (i + 1) m j) (nthFrom t blas (i + 1) m (suc j))
 
 -- of all
 abbrev pub nthOf : List ℕ → ℕ → ℕ → ℕ
@@ -34,7 +35,7 @@ standing t k = cond (ltb k (declaredIn t)) (some (declaredAt t (k * size 3))) no
 
 -- the index: the first of each Blas, and after each the next of the same Blas
 abbrev pub Heads : List ℕ → List ℕ → Type 0
-Heads t head = (blas : ℕ) → blas < 128 → getD head blas 0 ≡ nthOf t blas 0
+Heads t head = (blas : ℕ) → blas < layout 2 .most → getD head blas 0 ≡ nthOf t blas 0
 
 abbrev pub Nexts : List ℕ → List ℕ → Type 0
 Nexts t next =
@@ -46,5 +47,5 @@ following t next k = cond (ltb k (declaredIn t)) (getD next k 0) k
 
 -- what can be indexed
 pub record Indexable (t : List ℕ) : Type 0 where
-  pub few : declaredIn t ≤ 512
-  pub small : (k : ℕ) → k < declaredIn t → blasOfDeclared t k < 128
+  pub few : declaredIn t ≤ layout 3 .most
+  pub small : (k : ℕ) → k < declaredIn t → blasOfDeclared t k < layout 2 .most

@@ -1,33 +1,39 @@
 // Entries, geometries in turn: each against what its Blas declares, found by an index of section 3.
 use build_geometry::check_aabbs;
 use build_geometry::check_triangles;
-use build_ids::geometry_count;
+use ray_tracing::BUFFER_SIZE;
 use ray_tracing::Blas;
 use ray_tracing::BlasGeometry;
 use ray_tracing::BlasId;
 use ray_tracing::BufferId;
 use ray_tracing::CheckedGeometry;
+use ray_tracing::DECLARED_SIZE;
 use ray_tracing::Declared;
+use ray_tracing::ENTRY_SIZE;
+use ray_tracing::GEOMETRY_SIZE;
 use ray_tracing::GivenBuffer;
+use ray_tracing::NO_BUFFER;
 use ray_tracing::Verdict;
 use records::blas_of_entry;
 use records::buffer_at;
 use records::declared_at;
 use records::entry_at;
 use records::geometry_at;
+use records::geometry_count;
 use wire::u16_at;
 ghost use mathlib.Core.Path.{_≡_};
 ghost use mathlib.Core.List.{[]};
 ghost use Prim.Native.Nat.{ℕ, _+_, _*_, _/_, _≤_, _<_};
 ghost use lib.ListN.{length};
-ghost use Rattle.ray_tracing.specs.Layout.{size};
+ghost use Rattle.ray_tracing.specs.Layout.{layout, size};
 ghost use Rattle.ray_tracing.specs.Mentions.{bufferOf};
 ghost use Rattle.ray_tracing.specs.Code.{checkedOf, bufferGiven, declaredGiven, verdictOf};
 ghost use Rattle.ray_tracing.specs.Triangles.{unlessNone};
-ghost use Rattle.ray_tracing.specs.Plan.{firstOf, firstDrawing, entryOf, geometryCount, checkedAt, checkedE, judgeEntry, judgeEntries};
+ghost use Rattle.ray_tracing.specs.Plan.{firstOf, firstDrawing, entryOf, geometryCount, checkedAt, checkedE};
+ghost use Rattle.ray_tracing.specs.Plan.{judgeEntry, judgeEntries};
 ghost use Rattle.ray_tracing.proofs.Inside.{Named};
-ghost use Rattle.ray_tracing.specs.Parts.{forEntries};
-ghost use Rattle.build_entries.specs.Index.{Indexable, Heads, Nexts, nthOf, following, standing};
+ghost use Rattle.ray_tracing.specs.Parts.{forEntries, entriesIn};
+ghost use Rattle.build_entries.specs.Index.{Indexable, Heads, Nexts, declaredIn, nthOf, following, standing};
 ghost use Rattle.build_entries.specs.Kinds.{byKind};
 ghost use Rattle.build_entries.specs.Within.{GeometryInside, EntriesInside};
 
@@ -37,11 +43,16 @@ fn wide(x: u16) -> usize
     x as usize
 }
 
-// For each Blas its first declared geometry, and for each declared geometry the next of the same Blas; how many there are where there is
-// none.
+// As many as sections 2 and 3 may have.
+const MOST_BLASES: usize = 128;
+
+const MOST_DECLARED: usize = 512;
+
+// For each Blas its first declared geometry, and for each declared geometry the next of the same Blas; how many there are where
+// there is none.
 pub struct DeclaredIndex {
-    pub head: [u16; 128],
-    pub next: [u16; 512],
+    pub head: [u16; MOST_BLASES],
+    pub next: [u16; MOST_DECLARED],
 }
 
 // One pass, from the last to the first.
@@ -49,13 +60,13 @@ fn index_declared(declared: &[u8]) -> DeclaredIndex
     requires { ⌜ Indexable (now declared) ⌝ }
     ensures { λ r. ⌜ (Heads (now (declared .entry)) (r .head)) × (Nexts (now (declared .entry)) (r .next)) ⌝ }
 {
-    let n = declared.len() / 18;
-    let mut head = [n as u16; 128];
-    let mut next = [0u16; 512];
+    let n = declared.len() / DECLARED_SIZE;
+    let mut head = [n as u16; MOST_BLASES];
+    let mut next = [0u16; MOST_DECLARED];
     let mut i = n;
     while 0 < i {
         i -= 1;
-        let blas = u16_at(declared, i * 18) as usize;
+        let blas = u16_at(declared, i * DECLARED_SIZE) as usize;
         next[i] = head[blas];
         head[blas] = i as u16;
     }
@@ -63,8 +74,8 @@ fn index_declared(declared: &[u8]) -> DeclaredIndex
 }
 
 // The first declared geometry of a Blas.
-fn first_declared(declared: &[u8], head: &[u16; 128], blas: BlasId) -> usize
-    requires { ⌜ (Heads (now declared) (now head)) × (blas .0 < 128) ⌝ }
+fn first_declared(declared: &[u8], head: &[u16; MOST_BLASES], blas: BlasId) -> usize
+    requires { ⌜ (Heads (now declared) (now head)) × (blas .0 < layout 2 .most) ⌝ }
     ensures { λ r. ⌜ r ≡ nthOf (now (declared .entry)) (blas .0) 0 ⌝ }
 {
     let b = blas.0 as usize;
@@ -72,11 +83,11 @@ fn first_declared(declared: &[u8], head: &[u16; 128], blas: BlasId) -> usize
 }
 
 // The one after it.
-fn next_declared(declared: &[u8], next: &[u16; 512], at: usize) -> usize
-    requires { ⌜ length (now declared) / 18 ≤ 512 ⌝ }
+fn next_declared(declared: &[u8], next: &[u16; MOST_DECLARED], at: usize) -> usize
+    requires { ⌜ declaredIn (now declared) ≤ layout 3 .most ⌝ }
     ensures { λ r. ⌜ r ≡ following (now (declared .entry)) (now (next .entry)) at ⌝ }
 {
-    if at < declared.len() / 18 {
+    if at < declared.len() / DECLARED_SIZE {
         wide(next[at])
     } else {
         at
@@ -86,8 +97,8 @@ fn next_declared(declared: &[u8], next: &[u16; 512], at: usize) -> usize
 fn declared_standing(declared: &[u8], at: usize) -> Declared
     ensures { λ r. ⌜ declaredGiven r ≡ standing (now (declared .entry)) at ⌝ }
 {
-    if at < declared.len() / 18 {
-        return Declared::Given(declared_at(declared, at * 18));
+    if at < declared.len() / DECLARED_SIZE {
+        return Declared::Given(declared_at(declared, at * DECLARED_SIZE));
     }
     Declared::Missing
 }
@@ -97,10 +108,10 @@ fn given_buffer(buffers: &[u8], id: BufferId) -> GivenBuffer
     requires { ⌜ Named (id .0) (length (now buffers) / size 1) ⌝ }
     ensures { λ r. ⌜ bufferGiven r ≡ unlessNone (bufferOf (now (buffers .entry))) (id .0) ⌝ }
 {
-    if id.0 == 65535 {
+    if id.0 == NO_BUFFER {
         return GivenBuffer::Absent;
     }
-    GivenBuffer::Given(buffer_at(buffers, id.0 as usize * 9))
+    GivenBuffer::Given(buffer_at(buffers, id.0 as usize * BUFFER_SIZE))
 }
 
 // A geometry by its entry's kind, against what its Blas declares for it.
@@ -112,13 +123,14 @@ fn check_geometry(
     g: BlasGeometry,
 ) -> CheckedGeometry
     requires { ⌜ g .buffer .0 < length (now buffers) / size 1 ⌝ }
-    requires { ⌜ (kind ≡ 0 → Named (g .«index_buffer» .0) (length (now buffers) / size 1)) × (kind ≡ 0 → Named (g .«transform_buffer» .0) (length (now buffers) / size 1)) ⌝ }
-    ensures { λ r. ⌜
-        checkedOf r ≡ byKind (now (buffers .entry)) kind blas (declaredGiven declared) g
+    requires { ⌜
+        (kind ≡ 0 → Named (g .«index_buffer» .0) (length (now buffers) / size 1))
+        × (kind ≡ 0 → Named (g .«transform_buffer» .0) (length (now buffers) / size 1))
         ⌝ }
+    ensures { λ r. ⌜ checkedOf r ≡ byKind (now (buffers .entry)) kind blas (declaredGiven declared) g ⌝ }
 {
     let id = g.buffer;
-    let data = buffer_at(buffers, id.0 as usize * 9);
+    let data = buffer_at(buffers, id.0 as usize * BUFFER_SIZE);
     if kind != 0 {
         return check_aabbs(blas, declared, g, data);
     }
@@ -144,15 +156,16 @@ fn check_geometry_at(
     ensures { λ r. ⌜
         checkedOf r
         ≡ checkedAt
-        (forEntries (now (buffers .entry)) (now (blases .entry)) (now (declared .entry)) (now (entries .entry)) (now (geometries .entry)))
+        (forEntries (now (buffers .entry)) (now (blases .entry)) (now (declared .entry)) (now (entries .entry))
+        (now (geometries .entry)))
         i
         j
         g
         ⌝ }
 {
-    let entry = entry_at(entries, i * 5);
+    let entry = entry_at(entries, i * ENTRY_SIZE);
     let blas = blas_of_entry(blases, entries, i);
-    let geometry = geometry_at(geometries, g * 44);
+    let geometry = geometry_at(geometries, g * GEOMETRY_SIZE);
     let descriptor = declared_standing(declared, at);
     check_geometry(buffers, entry.kind, blas, descriptor, geometry)
 }
@@ -174,19 +187,32 @@ fn judge_geometries(
     declared: &[u8],
     entries: &[u8],
     geometries: &[u8],
-    next: &[u16; 512],
+    next: &[u16; MOST_DECLARED],
     i: usize,
     g: usize,
     place: usize,
     count: usize,
 ) -> Verdict
-    requires { ⌜ ((j : ℕ) → j < count → GeometryInside (forEntries (now buffers) (now blases) (now declared) (now entries) (now geometries)) i (g + j)) ⌝ }
+    requires { ⌜
+        ((j : ℕ)
+        → j < count
+        → GeometryInside (forEntries (now buffers) (now blases) (now declared) (now entries) (now geometries)) i (g + j))
+        ⌝ }
     requires { ⌜ place ≡ nthOf (now declared) (entryOf (forEntries [] [] [] (now entries) []) i .blas .0) 0 ⌝ }
-    requires { ⌜ Nexts (now declared) (now next) × (length (now declared) / 18 ≤ 512) ⌝ }
+    requires { ⌜ Nexts (now declared) (now next) × (declaredIn (now declared) ≤ layout 3 .most) ⌝ }
     ensures { λ r. ⌜
         verdictOf r
         ≡ firstOf
-        (λ j. checkedE i j (checkedAt (forEntries (now (buffers .entry)) (now (blases .entry)) (now (declared .entry)) (now (entries .entry)) (now (geometries .entry))) i j (g + j)))
+        (λ j.
+        checkedE
+        i
+        j
+        (checkedAt
+        (forEntries (now (buffers .entry)) (now (blases .entry)) (now (declared .entry)) (now (entries .entry))
+        (now (geometries .entry)))
+        i
+        j
+        (g + j)))
         0
         count
         ⌝ }
@@ -222,21 +248,33 @@ fn judge_entry(
     declared: &[u8],
     entries: &[u8],
     geometries: &[u8],
-    head: &[u16; 128],
-    next: &[u16; 512],
+    head: &[u16; MOST_BLASES],
+    next: &[u16; MOST_DECLARED],
     i: usize,
     g: usize,
     count: usize,
 ) -> Verdict
-    requires { ⌜ ((j : ℕ) → j < count → GeometryInside (forEntries (now buffers) (now blases) (now declared) (now entries) (now geometries)) i (g + j)) ⌝ }
-    requires { ⌜ (i * 5 + 5 ≤ length (now entries)) × (entryOf (forEntries [] [] [] (now entries) []) i .blas .0 < 128) ⌝ }
+    requires { ⌜
+        ((j : ℕ)
+        → j < count
+        → GeometryInside (forEntries (now buffers) (now blases) (now declared) (now entries) (now geometries)) i (g + j))
+        ⌝ }
+    requires { ⌜ i * size 5 + size 5 ≤ length (now entries) ⌝ }
+    requires { ⌜ entryOf (forEntries [] [] [] (now entries) []) i .blas .0 < layout 2 .most ⌝ }
     requires { ⌜ count ≡ geometryCount (forEntries [] [] [] (now entries) []) i ⌝ }
-    requires { ⌜ Heads (now declared) (now head) × Nexts (now declared) (now next) × (length (now declared) / 18 ≤ 512) ⌝ }
+    requires { ⌜
+        Heads (now declared) (now head) × Nexts (now declared) (now next) × (declaredIn (now declared) ≤ layout 3 .most)
+        ⌝ }
     ensures { λ r. ⌜
-        verdictOf r ≡ judgeEntry (forEntries (now (buffers .entry)) (now (blases .entry)) (now (declared .entry)) (now (entries .entry)) (now (geometries .entry))) i g
+        verdictOf r
+        ≡ judgeEntry
+        (forEntries (now (buffers .entry)) (now (blases .entry)) (now (declared .entry)) (now (entries .entry))
+        (now (geometries .entry)))
+        i
+        g
         ⌝ }
 {
-    let entry = entry_at(entries, i * 5);
+    let entry = entry_at(entries, i * ENTRY_SIZE);
     let place = first_declared(declared, head, entry.blas);
     judge_geometries(
         buffers,
@@ -258,22 +296,26 @@ fn judge_each(
     declared: &[u8],
     entries: &[u8],
     geometries: &[u8],
-    head: &[u16; 128],
-    next: &[u16; 512],
+    head: &[u16; MOST_BLASES],
+    next: &[u16; MOST_DECLARED],
 ) -> Verdict
     requires { ⌜ EntriesInside (forEntries (now buffers) (now blases) (now declared) (now entries) (now geometries)) ⌝ }
-    requires { ⌜ Heads (now declared) (now head) × Nexts (now declared) (now next) × (length (now declared) / 18 ≤ 512) ⌝ }
+    requires { ⌜
+        Heads (now declared) (now head) × Nexts (now declared) (now next) × (declaredIn (now declared) ≤ layout 3 .most)
+        ⌝ }
     ensures { λ r. ⌜
         verdictOf r
         ≡ firstDrawing
-        (judgeEntry (forEntries (now (buffers .entry)) (now (blases .entry)) (now (declared .entry)) (now (entries .entry)) (now (geometries .entry))))
+        (judgeEntry
+        (forEntries (now (buffers .entry)) (now (blases .entry)) (now (declared .entry)) (now (entries .entry))
+        (now (geometries .entry))))
         (geometryCount (forEntries [] [] [] (now (entries .entry)) []))
         0
         0
-        (length (now (entries .entry)) / size 5)
+        (entriesIn (now (entries .entry)))
         ⌝ }
 {
-    let n = entries.len() / 5;
+    let n = entries.len() / ENTRY_SIZE;
     let mut i: usize = 0;
     let mut g: usize = 0;
     while i < n {
@@ -307,9 +349,15 @@ pub fn judge_entries(
     entries: &[u8],
     geometries: &[u8],
 ) -> Verdict
-    requires { ⌜ EntriesInside (forEntries (now buffers) (now blases) (now declared) (now entries) (now geometries)) × Indexable (now declared) ⌝ }
+    requires { ⌜
+        EntriesInside (forEntries (now buffers) (now blases) (now declared) (now entries) (now geometries))
+        × Indexable (now declared)
+        ⌝ }
     ensures { λ r. ⌜
-        verdictOf r ≡ judgeEntries (forEntries (now (buffers .entry)) (now (blases .entry)) (now (declared .entry)) (now (entries .entry)) (now (geometries .entry)))
+        verdictOf r
+        ≡ judgeEntries
+        (forEntries (now (buffers .entry)) (now (blases .entry)) (now (declared .entry)) (now (entries .entry))
+        (now (geometries .entry)))
         ⌝ }
 {
     let index = index_declared(declared);

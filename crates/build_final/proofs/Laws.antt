@@ -10,10 +10,11 @@ use Rattle.ray_tracing.specs.declared.BlasBuildEntry.{BlasBuildEntry}
 use Rattle.ray_tracing.specs.declared.TlasPackage.{TlasPackage}
 use Rattle.ray_tracing.specs.Records.{entryAt, packageAt}
 use Rattle.ray_tracing.specs.Causes.{cause, bare}
+use Rattle.ray_tracing.specs.Layout.{size}
 use Rattle.ray_tracing.specs.Plan.{Verdict, passed, refused, on, _or_, blasOfEntry, tlasOfPackage, tlasDestroyed, blasBuildable}
 use Rattle.ray_tracing.specs.Parts.{forPackages, forEntries}
 
-module _ (tlases packages : List ℕ) (p : ℕ) {built : TlasPackage} {tlas : Tlas} (e : built ≡ packageAt packages (p * 4)) (t : tlas ≡ tlasOfPackage (forPackages [] tlases packages []) p) where
+module _ (tlases packages : List ℕ) (p : ℕ) {built : TlasPackage} {tlas : Tlas} (e : built ≡ packageAt packages (p * size 7)) (t : tlas ≡ tlasOfPackage (forPackages [] tlases packages []) p) where
   pub tlas-refused :
       tlas .destroyed ≡ 1 → refused p 0 (cause 21 3 (built .tlas .0) 0) ≡ tlasDestroyed (forPackages [] tlases packages []) p
   tlas-refused h =
@@ -27,7 +28,7 @@ module _ (tlases packages : List ℕ) (p : ℕ) {built : TlasPackage} {tlas : Tl
 
 pub blas-judged :
     (blases entries : List ℕ) (i : ℕ) {entry : BlasBuildEntry} {blas : Blas} {v : Verdict}
-    → entry ≡ entryAt entries (i * 5)
+    → entry ≡ entryAt entries (i * size 5)
     → blas ≡ blasOfEntry (forEntries [] blases [] entries []) i
     → v
     ≡ (on (eqb (blas .destroyed) 1) (refused i 0 (cause 21 2 (entry .blas .0) 0))

@@ -1,7 +1,10 @@
-// What is judged last, before room: 37, then 21 of Tlases, then 21 and 38 of Blases.
+// The scratch that entries and packages share, and what is judged last, before room: 37, then 21 of Tlases, then 21 and 38 of
+// Blases.
 use ray_tracing::Blas;
 use ray_tracing::BlasId;
 use ray_tracing::BuildAccelerationStructureError;
+use ray_tracing::ENTRY_SIZE;
+use ray_tracing::PACKAGE_SIZE;
 use ray_tracing::Resource;
 use ray_tracing::Verdict;
 use ray_tracing::first;
@@ -9,24 +12,84 @@ use records::blas_of_entry;
 use records::entry_at;
 use records::package_at;
 use records::tlas_of_package;
+use scratch::add_rounded;
 ghost use mathlib.Core.Path.{_≡_};
 ghost use mathlib.Core.List.{[]};
-ghost use Prim.Native.Nat.{_+_, _-_, _*_, _/_, _^_, _≤_, _<_};
+ghost use Prim.Native.Nat.{_+_, _-_, _*_, _/_, _^_, _≤_, _<_, max};
 ghost use lib.ListN.{length};
 ghost use lib.Dec.{eqb};
 ghost use Rattle.ray_tracing.specs.Layout.{size};
 ghost use Rattle.ray_tracing.specs.Causes.{cause, bare};
-ghost use Rattle.ray_tracing.specs.Plan.{refused, on, _or_, firstOf, tlasDestroyed, blasBuildable, packageOf, entryOf};
+ghost use Rattle.ray_tracing.specs.Plan.{tablesOf, packageOf, entryOf, blasTotal, tlasTotal, scratchSize};
+ghost use Rattle.ray_tracing.specs.Plan.{refused, on, _or_, firstOf, tlasDestroyed, blasBuildable};
 ghost use Rattle.ray_tracing.specs.Code.{verdictOf};
-ghost use Rattle.ray_tracing.specs.Parts.{forPackages, forEntries, PackagesNamed, EntriesNamed};
+ghost use Rattle.ray_tracing.specs.Parts.{forPackages, forEntries, entriesIn, packagesIn, PackagesNamed, EntriesNamed};
+
+// Blas scratch runs from 0.
+fn blas_total(alignment: u32, blases: &[u8], entries: &[u8]) -> u64
+    requires { ⌜ (1 ≤ alignment) × EntriesNamed (now blases) (now entries) ⌝ }
+    ensures { λ r. ⌜ r ≡ blasTotal (tablesOf alignment [] (now (blases .entry)) [] [] (now (entries .entry)) [] [] []) ⌝ }
+{
+    let n = entries.len() / ENTRY_SIZE;
+    let mut total: u64 = 0;
+    let mut i: usize = 0;
+    while i < n {
+        let blas = blas_of_entry(blases, entries, i);
+        total = add_rounded(total, blas.build_scratch_size, alignment as u64);
+        i += 1;
+    }
+    total
+}
+
+// Packages run their own total from 0.
+fn tlas_total(alignment: u32, tlases: &[u8], packages: &[u8]) -> u64
+    requires { ⌜ (1 ≤ alignment) × PackagesNamed (now tlases) (now packages) ⌝ }
+    ensures { λ r. ⌜ r ≡ tlasTotal (tablesOf alignment [] [] [] (now (tlases .entry)) [] [] (now (packages .entry)) []) ⌝ }
+{
+    let n = packages.len() / PACKAGE_SIZE;
+    let mut total = 0u64;
+    let mut p: usize = 0;
+    while p < n {
+        let tlas = tlas_of_package(tlases, packages, p);
+        total = add_rounded(total, tlas.build_scratch_size, alignment as u64);
+        p += 1;
+    }
+    total
+}
+
+fn larger(a: u64, b: u64) -> u64
+    ensures { λ r. ⌜ r ≡ max a b ⌝ }
+{
+    if a < b { b } else { a }
+}
+
+// They share the scratch.
+pub fn scratch_size(
+    alignment: u32,
+    blases: &[u8],
+    tlases: &[u8],
+    entries: &[u8],
+    packages: &[u8],
+) -> u64
+    requires { ⌜ (1 ≤ alignment) × EntriesNamed (now blases) (now entries) × PackagesNamed (now tlases) (now packages) ⌝ }
+    ensures { λ r. ⌜
+        r
+        ≡ scratchSize
+        (tablesOf alignment [] (now (blases .entry)) [] (now (tlases .entry)) (now (entries .entry)) [] (now (packages .entry)) [])
+        ⌝ }
+{
+    let blas = blas_total(alignment, blases, entries);
+    let tlas = tlas_total(alignment, tlases, packages);
+    larger(blas, tlas)
+}
 
 // The Tlas of package p is not destroyed.
 fn tlas_destroyed(tlases: &[u8], packages: &[u8], p: usize) -> Verdict
-    requires { ⌜ p * 4 + 4 ≤ length (now packages) ⌝ }
+    requires { ⌜ p * size 7 + size 7 ≤ length (now packages) ⌝ }
     requires { ⌜ packageOf (forPackages [] [] (now packages) []) p .tlas .0 < length (now tlases) / size 4 ⌝ }
     ensures { λ r. ⌜ verdictOf r ≡ tlasDestroyed (forPackages [] (now (tlases .entry)) (now (packages .entry)) []) p ⌝ }
 {
-    let package = package_at(packages, p * 4);
+    let package = package_at(packages, p * PACKAGE_SIZE);
     let tlas = tlas_of_package(tlases, packages, p);
     if tlas.destroyed == 1 {
         let id = package.tlas;
@@ -43,10 +106,13 @@ fn tlases_destroyed(tlases: &[u8], packages: &[u8]) -> Verdict
     requires { ⌜ PackagesNamed (now tlases) (now packages) ⌝ }
     ensures { λ r. ⌜
         verdictOf r
-        ≡ firstOf (tlasDestroyed (forPackages [] (now (tlases .entry)) (now (packages .entry)) [])) 0 (length (now (packages .entry)) / size 7)
+        ≡ firstOf
+        (tlasDestroyed (forPackages [] (now (tlases .entry)) (now (packages .entry)) []))
+        0
+        (packagesIn (now (packages .entry)))
         ⌝ }
 {
-    let n = packages.len() / 4;
+    let n = packages.len() / PACKAGE_SIZE;
     let mut p: usize = 0;
     while p < n {
         let v = tlas_destroyed(tlases, packages, p);
@@ -80,11 +146,11 @@ fn buildable(blas: Blas, id: BlasId, i: usize) -> Verdict
 }
 
 fn blas_buildable(blases: &[u8], entries: &[u8], i: usize) -> Verdict
-    requires { ⌜ i * 5 + 5 ≤ length (now entries) ⌝ }
+    requires { ⌜ i * size 5 + size 5 ≤ length (now entries) ⌝ }
     requires { ⌜ entryOf (forEntries [] [] [] (now entries) []) i .blas .0 < length (now blases) / size 2 ⌝ }
     ensures { λ r. ⌜ verdictOf r ≡ blasBuildable (forEntries [] (now (blases .entry)) [] (now (entries .entry)) []) i ⌝ }
 {
-    let entry = entry_at(entries, i * 5);
+    let entry = entry_at(entries, i * ENTRY_SIZE);
     let blas = blas_of_entry(blases, entries, i);
     buildable(blas, entry.blas, i)
 }
@@ -93,10 +159,13 @@ fn blases_buildable(blases: &[u8], entries: &[u8]) -> Verdict
     requires { ⌜ EntriesNamed (now blases) (now entries) ⌝ }
     ensures { λ r. ⌜
         verdictOf r
-        ≡ firstOf (blasBuildable (forEntries [] (now (blases .entry)) [] (now (entries .entry)) [])) 0 (length (now (entries .entry)) / size 5)
+        ≡ firstOf
+        (blasBuildable (forEntries [] (now (blases .entry)) [] (now (entries .entry)) []))
+        0
+        (entriesIn (now (entries .entry)))
         ⌝ }
 {
-    let n = entries.len() / 5;
+    let n = entries.len() / ENTRY_SIZE;
     let mut i: usize = 0;
     while i < n {
         let v = blas_buildable(blases, entries, i);
@@ -123,11 +192,11 @@ pub fn judge_final(
         or firstOf
         (tlasDestroyed (forPackages [] (now (tlases .entry)) (now (packages .entry)) []))
         0
-        (length (now (packages .entry)) / 4)
+        (packagesIn (now (packages .entry)))
         or firstOf
         (blasBuildable (forEntries [] (now (blases .entry)) [] (now (entries .entry)) []))
         0
-        (length (now (entries .entry)) / 5))
+        (entriesIn (now (entries .entry))))
         ⌝ }
 {
     if size == 18446744073709551615 {

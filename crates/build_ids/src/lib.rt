@@ -1,9 +1,11 @@
 // Ids first: per entry each geometry's buffers, then the Blas; per package each present slot's Blas, then the Tlas.
 use instance::slot_mention;
+use ray_tracing::BufferId;
 use ray_tracing::BuildAccelerationStructureError;
 use ray_tracing::ENTRY_SIZE;
 use ray_tracing::GEOMETRY_SIZE;
 use ray_tracing::Mentioned;
+use ray_tracing::NO_BUFFER;
 use ray_tracing::PACKAGE_SIZE;
 use ray_tracing::SLOT_SIZE;
 use ray_tracing::Verdict;
@@ -12,7 +14,9 @@ use records::blas_mention;
 use records::buffer_mention;
 use records::entry_at;
 use records::geometry_at;
+use records::geometry_count;
 use records::package_at;
+use records::slot_count;
 use records::tlas_mention;
 ghost use mathlib.Core.Path.{_≡_};
 ghost use mathlib.Core.Bool.{cond};
@@ -23,9 +27,10 @@ ghost use lib.Dec.{eqb};
 ghost use Rattle.ray_tracing.specs.Layout.{size};
 ghost use Rattle.ray_tracing.specs.Mentions.{bufferMention};
 ghost use Rattle.ray_tracing.specs.Code.{mentionOf, verdictOf};
-ghost use Rattle.ray_tracing.specs.Plan.{_or_, atE, firstOf, firstDrawing, geometryCount, slotCount, geometryIds, entryIds, slotIds, packageIds, judgeIds, tablesOf};
+ghost use Rattle.ray_tracing.specs.Plan.{_or_, atE, firstOf, firstDrawing, geometryCount, slotCount, tablesOf};
+ghost use Rattle.ray_tracing.specs.Plan.{geometryIds, entryIds, slotIds, packageIds, judgeIds};
 ghost use Rattle.ray_tracing.proofs.Inside.{drawnBefore, slotsBefore};
-ghost use Rattle.ray_tracing.specs.Parts.{forPackages, forEntries};
+ghost use Rattle.ray_tracing.specs.Parts.{forPackages, forEntries, entriesIn, packagesIn};
 
 // What a mention finds, at E.
 fn mention_verdict(m: Mentioned, e: usize, f: usize) -> Verdict
@@ -40,13 +45,13 @@ fn mention_verdict(m: Mentioned, e: usize, f: usize) -> Verdict
 }
 
 // An index or a transform buffer, unless it is none.
-fn optional_mention(buffers: &[u8], id: usize) -> Mentioned
-    ensures { λ r. ⌜ mentionOf r ≡ cond (eqb id 65535) 0 (bufferMention (now (buffers .entry)) id) ⌝ }
+fn optional_mention(buffers: &[u8], id: BufferId) -> Mentioned
+    ensures { λ r. ⌜ mentionOf r ≡ cond (eqb (id .0) 65535) 0 (bufferMention (now (buffers .entry)) (id .0)) ⌝ }
 {
-    if id == 65535 {
+    if id.0 == NO_BUFFER {
         return Mentioned::Inside;
     }
-    buffer_mention(buffers, id)
+    buffer_mention(buffers, id.0 as usize)
 }
 
 // The j-th geometry of entry i, which is geometry g: its data buffer, and for triangles its index and transform buffers.
@@ -70,10 +75,8 @@ fn geometry_ids(
     if entry.kind != 0 {
         return data;
     }
-    let index_id = geometry.index_buffer;
-    let index = mention_verdict(optional_mention(buffers, index_id.0 as usize), i, j);
-    let transform_id = geometry.transform_buffer;
-    let transform = mention_verdict(optional_mention(buffers, transform_id.0 as usize), i, j);
+    let index = mention_verdict(optional_mention(buffers, geometry.index_buffer), i, j);
+    let transform = mention_verdict(optional_mention(buffers, geometry.transform_buffer), i, j);
     first(data, first(index, transform))
 }
 
@@ -89,7 +92,10 @@ fn geometries_ids(
     requires { ⌜ (i * size 5 + size 5 ≤ length (now entries)) × ((g + count) * size 6 ≤ length (now geometries)) ⌝ }
     ensures { λ r. ⌜
         verdictOf r
-        ≡ firstOf (λ j. geometryIds (forEntries (now (buffers .entry)) [] [] (now (entries .entry)) (now (geometries .entry))) i j (g + j)) 0 count
+        ≡ firstOf
+        (λ j. geometryIds (forEntries (now (buffers .entry)) [] [] (now (entries .entry)) (now (geometries .entry))) i j (g + j))
+        0
+        count
         ⌝ }
 {
     let mut j: usize = 0;
@@ -101,15 +107,6 @@ fn geometries_ids(
         j += 1;
     }
     Verdict::Passed
-}
-
-// How many geometries entry i draws.
-pub fn geometry_count(entries: &[u8], i: usize) -> usize
-    requires { ⌜ i * size 5 + size 5 ≤ length (now entries) ⌝ }
-    ensures { λ r. ⌜ r ≡ geometryCount (forEntries [] [] [] (now (entries .entry)) []) i ⌝ }
-{
-    let entry = entry_at(entries, i * ENTRY_SIZE);
-    entry.geometry_count as usize
 }
 
 // Entry i, whose geometries stand from geometry g on: they, then its Blas.
@@ -137,7 +134,7 @@ fn entry_ids(
 }
 
 fn entries_ids(buffers: &[u8], blases: &[u8], entries: &[u8], geometries: &[u8]) -> Verdict
-    requires { ⌜ drawnBefore (forEntries [] [] [] (now entries) []) (length (now entries) / size 5) ≡ length (now geometries) / size 6 ⌝ }
+    requires { ⌜ drawnBefore (forEntries [] [] [] (now entries) []) (entriesIn (now entries)) ≡ length (now geometries) / size 6 ⌝ }
     ensures { λ r. ⌜
         verdictOf r
         ≡ firstDrawing
@@ -145,7 +142,7 @@ fn entries_ids(buffers: &[u8], blases: &[u8], entries: &[u8], geometries: &[u8])
         (geometryCount (forEntries [] [] [] (now (entries .entry)) []))
         0
         0
-        (length (now (entries .entry)) / size 5)
+        (entriesIn (now (entries .entry)))
         ⌝ }
 {
     let n = entries.len() / ENTRY_SIZE;
@@ -189,15 +186,6 @@ fn slots_ids(blases: &[u8], slots: &[u8], p: usize, s: usize, count: usize) -> V
     Verdict::Passed
 }
 
-// How many slots package p draws.
-pub fn slot_count(packages: &[u8], p: usize) -> usize
-    requires { ⌜ p * size 7 + size 7 ≤ length (now packages) ⌝ }
-    ensures { λ r. ⌜ r ≡ slotCount (forPackages [] [] (now (packages .entry)) []) p ⌝ }
-{
-    let package = package_at(packages, p * PACKAGE_SIZE);
-    package.slot_count as usize
-}
-
 // Package p, whose slots stand from slot s on: they, then its Tlas.
 fn package_ids(
     blases: &[u8],
@@ -223,7 +211,7 @@ fn package_ids(
 }
 
 fn packages_ids(blases: &[u8], tlases: &[u8], packages: &[u8], slots: &[u8]) -> Verdict
-    requires { ⌜ slotsBefore (forPackages [] [] (now packages) []) (length (now packages) / size 7) ≡ length (now slots) / size 8 ⌝ }
+    requires { ⌜ slotsBefore (forPackages [] [] (now packages) []) (packagesIn (now packages)) ≡ length (now slots) / size 8 ⌝ }
     ensures { λ r. ⌜
         verdictOf r
         ≡ firstDrawing
@@ -231,7 +219,7 @@ fn packages_ids(blases: &[u8], tlases: &[u8], packages: &[u8], slots: &[u8]) -> 
         (slotCount (forPackages [] [] (now (packages .entry)) []))
         0
         0
-        (length (now (packages .entry)) / size 7)
+        (packagesIn (now (packages .entry)))
         ⌝ }
 {
     let n = packages.len() / PACKAGE_SIZE;
@@ -259,8 +247,8 @@ pub fn judge_ids(
     packages: &[u8],
     slots: &[u8],
 ) -> Verdict
-    requires { ⌜ drawnBefore (forEntries [] [] [] (now entries) []) (length (now entries) / size 5) ≡ length (now geometries) / size 6 ⌝ }
-    requires { ⌜ slotsBefore (forPackages [] [] (now packages) []) (length (now packages) / size 7) ≡ length (now slots) / size 8 ⌝ }
+    requires { ⌜ drawnBefore (forEntries [] [] [] (now entries) []) (entriesIn (now entries)) ≡ length (now geometries) / size 6 ⌝ }
+    requires { ⌜ slotsBefore (forPackages [] [] (now packages) []) (packagesIn (now packages)) ≡ length (now slots) / size 8 ⌝ }
     ensures { λ r. ⌜
         verdictOf r
         ≡ judgeIds

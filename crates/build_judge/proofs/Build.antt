@@ -8,10 +8,11 @@ use lib.ListN.{length}
 use lib.Dec.{eqb}
 use borrow.Author.Tests.{eq-eqb, ne-eqb}
 use Rattle.ray_tracing.specs.Causes.{Cause, bare}
+use Rattle.ray_tracing.specs.Layout.{size}
 use Rattle.ray_tracing.specs.Plan.{Tables, Verdict, passed, refused, on, _or_, firstOf, judgeTables, judgeIds, judgeEntries, judgePackages, scratchSize, tlasDestroyed, blasBuildable, judgeFinal, tablesOf}
 use Rattle.ray_tracing.proofs.Verdicts.{or-passed}
 use Rattle.ray_tracing.proofs.Inside.{drawnBefore, slotsBefore, Inside, inside, tables-drawn, tables-slots}
-use Rattle.ray_tracing.specs.Parts.{forPackages, forEntries, PackagesNamed, EntriesNamed}
+use Rattle.ray_tracing.specs.Parts.{forPackages, forEntries, entriesIn, packagesIn, PackagesNamed, EntriesNamed}
 use Rattle.build_packages.specs.Within.{PackagesInside}
 use Rattle.build_ids.proofs.Laws.{or-first, or-second}
 use Rattle.build_judge.specs.Judging.{not-built, nothing, to-record, judgeToPackages, judgeBuild}
@@ -40,8 +41,8 @@ module _ (x : Tables) where
 
   pub sums :
       judgeTables x ≡ passed
-      → (drawnBefore (forEntries [] [] [] (x .entries) []) (length (x .entries) / 5) ≡ length (x .geometries) / 44)
-      × (slotsBefore (forPackages [] [] (x .packages) []) (length (x .packages) / 4) ≡ length (x .slots) / 56)
+      → (drawnBefore (forEntries [] [] [] (x .entries) []) (entriesIn (x .entries)) ≡ length (x .geometries) / size 6)
+      × (slotsBefore (forPackages [] [] (x .packages) []) (packagesIn (x .packages)) ≡ length (x .slots) / size 8)
   unfolding drawnBefore slotsBefore
   sums t = (tables-drawn x t, tables-slots x t)
 
@@ -102,8 +103,8 @@ module _ (x : Tables) where
   abbrev finalPart : ℕ → Verdict
   finalPart size =
       on (eqb size (2 ^ 64 - 1)) (refused 0 0 (bare 37))
-      or firstOf (tlasDestroyed (forPackages [] (x .tlases) (x .packages) [])) 0 (length (x .packages) / 4)
-      or firstOf (blasBuildable (forEntries [] (x .blases) [] (x .entries) [])) 0 (length (x .entries) / 5)
+      or firstOf (tlasDestroyed (forPackages [] (x .tlases) (x .packages) [])) 0 (packagesIn (x .packages))
+      or firstOf (blasBuildable (forEntries [] (x .blases) [] (x .entries) [])) 0 (entriesIn (x .entries))
 
   final-part : {n : ℕ} → n ≡ scratchSize x → finalPart n ≡ judgeFinal x
   unfolding judgeFinal

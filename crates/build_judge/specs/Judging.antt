@@ -41,4 +41,5 @@ judgeToPackages x = judgeTables x or judgeIds x or judgeEntries x or judgePackag
 -- "Larger total 0: accepted, nothing recorded": what comes after the packages is not judged then
 unfoldable pub judgeBuild : Tables → BuildJudged
 judgeBuild x =
-    judgedUnless (judgeToPackages x) (cond (eqb (scratchSize x) 0) nothing (judgedUnless (judgeFinal x) (to-record (scratchSize x))))
+    judgedUnless (judgeToPackages x)
+    (cond (eqb (scratchSize x) 0) nothing (judgedUnless (judgeFinal x) (to-record (scratchSize x))))

@@ -1,10 +1,10 @@
 // Judging a build, in the paper's order: tables, ids, entries, packages, the scratch, the final checks. Nothing is written.
 use build_entries::judge_entries;
 use build_final::judge_final;
+use build_final::scratch_size;
 use build_ids::judge_ids;
 use build_packages::judge_packages;
 use build_tables::judge_tables;
-use build_totals::scratch_size;
 use ray_tracing::BuildAccelerationStructureError;
 use ray_tracing::Verdict;
 use ray_tracing::first;

@@ -1,12 +1,14 @@
 // Packages in turn: 34 and 35 of their present slots, then 36.
-use build_ids::slot_count;
 use instance::check_slot;
 use instance::present_of;
 use ray_tracing::BuildAccelerationStructureError;
 use ray_tracing::CheckedInstance;
+use ray_tracing::PACKAGE_SIZE;
+use ray_tracing::SLOT_SIZE;
 use ray_tracing::Tlas;
 use ray_tracing::Verdict;
 use ray_tracing::first;
+use records::slot_count;
 use records::tlas_of_package;
 ghost use mathlib.Core.Path.{_≡_};
 ghost use mathlib.Core.List.{[]};
@@ -33,16 +35,20 @@ fn instance_verdict(c: CheckedInstance, e: usize, f: usize) -> Verdict
 
 // The j-th slot of package p, which is slot s: 34, 35.
 fn judge_slot(tlas: Tlas, blases: &[u8], slots: &[u8], p: usize, j: usize, s: usize) -> Verdict
-    requires { ⌜ (s * 56 + 56 ≤ length (now slots)) × (slotMention (now blases) (now slots) (s * 56) ≡ 0) ⌝ }
-    ensures { λ r. ⌜ verdictOf r ≡ atE p j (slotRule tlas (now (blases .entry)) (now (slots .entry)) (s * 56)) ⌝ }
+    requires { ⌜ (s * size 8 + size 8 ≤ length (now slots)) × (slotMention (now blases) (now slots) (s * size 8) ≡ 0) ⌝ }
+    ensures { λ r. ⌜ verdictOf r ≡ atE p j (slotRule tlas (now (blases .entry)) (now (slots .entry)) (s * size 8)) ⌝ }
 {
-    instance_verdict(check_slot(tlas, blases, slots, s * 56), p, j)
+    instance_verdict(check_slot(tlas, blases, slots, s * SLOT_SIZE), p, j)
 }
 
 // The slots of package p, from slot s on.
 fn judge_slots(tlas: Tlas, blases: &[u8], slots: &[u8], p: usize, s: usize, count: usize) -> Verdict
-    requires { ⌜ ((s + count) * 56 ≤ length (now slots)) × ((j : ℕ) → j < count → slotMention (now blases) (now slots) ((s + j) * 56) ≡ 0) ⌝ }
-    ensures { λ r. ⌜ verdictOf r ≡ firstOf (λ j. atE p j (slotRule tlas (now (blases .entry)) (now (slots .entry)) ((s + j) * 56))) 0 count ⌝ }
+    requires { ⌜ (s + count) * size 8 ≤ length (now slots) ⌝ }
+    requires { ⌜ ((j : ℕ) → j < count → slotMention (now blases) (now slots) ((s + j) * size 8) ≡ 0) ⌝ }
+    ensures { λ r. ⌜
+        verdictOf r
+        ≡ firstOf (λ j. atE p j (slotRule tlas (now (blases .entry)) (now (slots .entry)) ((s + j) * size 8))) 0 count
+        ⌝ }
 {
     let mut j: usize = 0;
     while j < count {
@@ -80,8 +86,10 @@ fn judge_package(
     s: usize,
     count: usize,
 ) -> Verdict
-    requires { ⌜ (p * 4 + 4 ≤ length (now packages)) × (packageOf (forPackages [] [] (now packages) []) p .tlas .0 < length (now tlases) / size 4) ⌝ }
-    requires { ⌜ ((s + count) * 56 ≤ length (now slots)) × ((j : ℕ) → j < count → slotMention (now blases) (now slots) ((s + j) * 56) ≡ 0) ⌝ }
+    requires { ⌜ p * size 7 + size 7 ≤ length (now packages) ⌝ }
+    requires { ⌜ packageOf (forPackages [] [] (now packages) []) p .tlas .0 < length (now tlases) / size 4 ⌝ }
+    requires { ⌜ (s + count) * size 8 ≤ length (now slots) ⌝ }
+    requires { ⌜ ((j : ℕ) → j < count → slotMention (now blases) (now slots) ((s + j) * size 8) ≡ 0) ⌝ }
     requires { ⌜ (count ≡ slotCount (forPackages [] [] (now packages) []) p) × (count < 65536) ⌝ }
     ensures { λ r. ⌜
         verdictOf r
@@ -102,7 +110,7 @@ pub fn judge_packages(blases: &[u8], tlases: &[u8], packages: &[u8], slots: &[u8
         ≡ judgePackages (forPackages (now (blases .entry)) (now (tlases .entry)) (now (packages .entry)) (now (slots .entry)))
         ⌝ }
 {
-    let n = packages.len() / 4;
+    let n = packages.len() / PACKAGE_SIZE;
     let mut p: usize = 0;
     let mut s: usize = 0;
     while p < n {

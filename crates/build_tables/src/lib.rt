@@ -4,7 +4,7 @@ use ray_tracing::Judged;
 use ray_tracing::SheetError;
 use ray_tracing::Verdict;
 use ray_tracing::first;
-use sheet::judge_lent;
+use sheet_sections::judge_lent;
 ghost use mathlib.Core.Path.{_≡_};
 ghost use Prim.Native.Nat.{_-_, _≤_, _<_};
 ghost use lib.Dec.{eqb};

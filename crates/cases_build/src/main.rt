@@ -2,7 +2,6 @@
 // many elements of each output are written, and a hash of each output's whole array, filled with a pattern before.
 // tests/make_build_cases.py says how a case is written, and makes cases and answers.
 use ray_tracing::Built;
-use ray_tracing::Written;
 
 fn wide(n: u32) -> usize {
     n as usize
@@ -39,56 +38,29 @@ fn table<'a>(head: &[u32; 16], bytes: &'a [u8], k: usize) -> &'a [u8] {
     part(bytes, start_of(head, k), number(head, k))
 }
 
-fn print_head(number: u64, e: u64, f: u64, first: u64, second: u64, third: u64) {
-    let words = [number, e, f, first, second, third];
-    cases::print_words(&words);
-}
-
-fn print_plan(recorded: u64, size: u64, w: Written) {
+fn print_built(built: Built) {
+    let a = capi_answers::build_answer(built);
     let words = [
-        recorded,
-        size,
-        w.blas_offsets as u64,
-        w.tlas_offsets as u64,
-        w.staging_ranges as u64,
-        w.instances as u64,
-        w.init_ranges as u64,
-        w.compactable as u64,
-        w.lists as u64,
+        a.number,
+        a.e0,
+        a.e1,
+        a.f0,
+        a.f1,
+        a.f2,
+        a.recorded,
+        a.scratch_size,
+        a.blas_offsets,
+        a.tlas_offsets,
+        a.staging_ranges,
+        a.instances,
+        a.init_ranges,
+        a.compactable,
+        a.lists,
     ];
     cases::print_words(&words);
 }
 
-fn only(init_ranges: usize) -> Written {
-    Written {
-        blas_offsets: 0,
-        tlas_offsets: 0,
-        staging_ranges: 0,
-        instances: 0,
-        init_ranges,
-        compactable: 0,
-        lists: 0,
-    }
-}
-
-fn print_built(built: Built) {
-    match built {
-        Built::Recorded(size, w) => {
-            print_head(0, 0, 0, 0, 0, 0);
-            print_plan(1, size, w);
-        }
-        Built::NothingRecorded(n) => {
-            print_head(0, 0, 0, 0, 0, 0);
-            print_plan(0, 0, only(n));
-        }
-        Built::Refused(error, e, f) => {
-            let c = causes::build_figures(error);
-            print_head(c.number, e as u64, f as u64, c.first, c.second, c.third);
-            print_plan(0, 0, only(0));
-        }
-    }
-}
-
+// A build of the case's tables into as much of each output as the case lends.
 fn run(
     head: &[u32; 16],
     bytes: &[u8],
@@ -100,25 +72,16 @@ fn run(
     compactable: &mut [u16],
     lists: &mut [u16],
 ) {
-    let alignment = head[0];
-    let buffers = table(head, bytes, 1);
-    let blases = table(head, bytes, 2);
-    let declared = table(head, bytes, 3);
-    let tlases = table(head, bytes, 4);
-    let entries = table(head, bytes, 5);
-    let geometries = table(head, bytes, 6);
-    let packages = table(head, bytes, 7);
-    let slots = table(head, bytes, 8);
     let built = build::build_acceleration_structures(
-        alignment,
-        buffers,
-        blases,
-        declared,
-        tlases,
-        entries,
-        geometries,
-        packages,
-        slots,
+        head[0],
+        table(head, bytes, 1),
+        table(head, bytes, 2),
+        table(head, bytes, 3),
+        table(head, bytes, 4),
+        table(head, bytes, 5),
+        table(head, bytes, 6),
+        table(head, bytes, 7),
+        table(head, bytes, 8),
         cases::first_u64(blas_offsets, number(head, 9)),
         cases::first_u64(tlas_offsets, number(head, 10)),
         cases::first_u64(staging_ranges, number(head, 11)),

@@ -1,4 +1,5 @@
-// A record of a lent table by value, a mention of one, and what an entry or a package names: what the definitions in ray_tracing/specs/Records.antt and Mentions.antt say.
+// A record of a lent table by value, a mention of one, and what an entry or a package names and draws: what the definitions in
+// ray_tracing/specs/Records.antt and Mentions.antt say.
 use ray_tracing::Blas;
 use ray_tracing::BlasBuildEntry;
 use ray_tracing::BlasGeometry;
@@ -6,7 +7,9 @@ use ray_tracing::BlasGeometrySizeDescriptor;
 use ray_tracing::BlasId;
 use ray_tracing::Buffer;
 use ray_tracing::BufferId;
+use ray_tracing::ENTRY_SIZE;
 use ray_tracing::Mentioned;
+use ray_tracing::PACKAGE_SIZE;
 use ray_tracing::Tlas;
 use ray_tracing::TlasId;
 use ray_tracing::TlasPackage;
@@ -20,6 +23,7 @@ ghost use lib.ListN.{length};
 ghost use Rattle.ray_tracing.specs.Layout.{size};
 ghost use Rattle.ray_tracing.specs.Records.{bufferAt, blasAt, declaredAt, tlasAt, entryAt, geometryAt, packageAt};
 ghost use Rattle.ray_tracing.specs.Mentions.{bufferMention, blasMention, tlasMention, blasOf, tlasOf};
+ghost use Rattle.ray_tracing.specs.Triangles.{indexWidth};
 ghost use Rattle.ray_tracing.specs.Code.{mentionOf};
 
 // A mention of an id, which is a number until it is judged here: one function for each sort.
@@ -169,4 +173,29 @@ pub fn tlas_of_package(tlases: &[u8], packages: &[u8], p: usize) -> Tlas
 {
     let id = package_at(packages, p * 4).tlas;
     tlas_at(tlases, id.0 as usize * 22)
+}
+
+// How many geometries entry i draws.
+pub fn geometry_count(entries: &[u8], i: usize) -> usize
+    requires { ⌜ i * size 5 + size 5 ≤ length (now entries) ⌝ }
+    ensures { λ r. ⌜ r ≡ entryAt (now (entries .entry)) (i * size 5) .«geometry_count» ⌝ }
+{
+    let entry = entry_at(entries, i * ENTRY_SIZE);
+    entry.geometry_count as usize
+}
+
+// How many slots package p draws.
+pub fn slot_count(packages: &[u8], p: usize) -> usize
+    requires { ⌜ p * size 7 + size 7 ≤ length (now packages) ⌝ }
+    ensures { λ r. ⌜ r ≡ packageAt (now (packages .entry)) (p * size 7) .«slot_count» ⌝ }
+{
+    let package = package_at(packages, p * PACKAGE_SIZE);
+    package.slot_count as usize
+}
+
+// A two-byte index, or one of four.
+pub fn index_width(format: u8) -> u64
+    ensures { λ r. ⌜ (r ≡ indexWidth format) × (r ≤ 4) ⌝ }
+{
+    if format == 1 { 2 } else { 4 }
 }

@@ -22,7 +22,7 @@ loop-holds : tie.Need-loop-holds Inv-loop μ-loop
 loop-holds c = (search needs, sym (drawn-none _), from-start-drawing _ _ _)
 
 judge-entry-requires : tie.Need-judge-entry-requires Inv-loop μ-loop
-judge-entry-requires c κs = let l = c .before .before .loop in let t = c .before .loop-test .taken in let h = c .before .before .before .before .before .before .before .before .pre .0 in (λ j k. rw (l .inv .1) (h .geometries (l .i) j t (omega (arith, c .geometry-count .ensures))), ((search needs, omega (arith, h .blas (l .i) t, h .few)), (c .geometry-count .ensures, c .before .before .before .before .before .before .before .before .pre .1)))
+judge-entry-requires c κs = let l = c .before .before .loop in let t = c .before .loop-test .taken in let h = c .before .before .before .before .before .before .before .before .pre .0 in (λ j k. rw (l .inv .1) (h .geometries (l .i) j t (omega (arith, c .geometry-count .ensures))), (search needs, (omega (arith, h .blas (l .i) t, h .few), (c .geometry-count .ensures, c .before .before .before .before .before .before .before .before .pre .1))))
 
 returns : tie.Need-returns Inv-loop μ-loop
 returns c = found-drawing _ _ _ _ _ _ (c .before .before .before .before .before .loop .inv .2) (c .before .before .before .before .loop-test .taken) _ _ _ (c .before .before .judge-entry .ensures) (ap verdictOf (c .enum-told .given .1))

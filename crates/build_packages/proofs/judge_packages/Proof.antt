@@ -22,7 +22,7 @@ loop-holds : tie.Need-loop-holds Inv-loop μ-loop
 loop-holds c = (search needs, sym (slots-none _), from-start-drawing _ _ _)
 
 judge-package-requires : tie.Need-judge-package-requires Inv-loop μ-loop
-judge-package-requires c κs = let a = c .before .before .before .before .before .before .before .args in let x = forPackages (a .blases .now) (a .tlases .now) (a .packages .now) (a .slots .now) in let l = c .before .before .loop in let t = c .before .loop-test .taken in let h = c .before .before .before .before .before .before .before .pre in let n = c .slot-count .ensures in let d = h .drawn (l .p) t in ((search needs, h .tlas (l .p) t), ((omega arith, λ j k. rw (l .inv .1) (slot-named (a .blases .now) (a .slots .now) (slotsBefore x (l .p) + j) (h .blas (l .p) j t (omega arith)))), (n, omega arith)))
+judge-package-requires c κs = let a = c .before .before .before .before .before .before .before .args in let x = forPackages (a .blases .now) (a .tlases .now) (a .packages .now) (a .slots .now) in let l = c .before .before .loop in let t = c .before .loop-test .taken in let h = c .before .before .before .before .before .before .before .pre in let n = c .slot-count .ensures in let d = h .drawn (l .p) t in (search needs, (h .tlas (l .p) t, (omega arith, ((λ j k. rw (l .inv .1) (slot-named (a .blases .now) (a .slots .now) (slotsBefore x (l .p) + j) (h .blas (l .p) j t (omega arith)))), (n, omega arith)))))
 
 returns : tie.Need-returns Inv-loop μ-loop
 unfolding judgePackages

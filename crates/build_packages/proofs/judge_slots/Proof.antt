@@ -3,6 +3,7 @@ use mathlib.Core.Path.{_≡_, sym, ap, _∙_}
 use Prim.Native.Nat.{_+_, _-_, _*_, _≤_}
 use native.Mathlib.Omega.{arith}
 use Rattle.ray_tracing.specs.Instances.{slotRule}
+use Rattle.ray_tracing.specs.Layout.{size}
 use Rattle.ray_tracing.specs.Plan.{atE, firstOf}
 use Rattle.ray_tracing.specs.Code.{verdictOf}
 use Rattle.ray_tracing.proofs.Verdicts.{from-start, ended, found, onward}
@@ -11,7 +12,7 @@ use Rattle.build_packages.proofs.judge_slots.Statement.{statement}
 use Rattle.build_packages.proofs.judge_slots.Tie as tie
 
 abbrev Inv-loop : tie.InvT-loop
-Inv-loop tlas blases slots p s count j₀ j = (j ≤ count) × (firstOf (λ j. atE p j (slotRule tlas blases slots ((s + j) * 56))) j (count - j) ≡ firstOf (λ j. atE p j (slotRule tlas blases slots ((s + j) * 56))) 0 count)
+Inv-loop tlas blases slots p s count j₀ j = (j ≤ count) × (firstOf (λ j. atE p j (slotRule tlas blases slots ((s + j) * size 8))) j (count - j) ≡ firstOf (λ j. atE p j (slotRule tlas blases slots ((s + j) * size 8))) 0 count)
 
 abbrev μ-loop : tie.MeasureT-loop
 μ-loop tlas blases slots p s count j₀ j = count - j

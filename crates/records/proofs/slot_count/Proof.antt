@@ -1,9 +1,9 @@
--- `build_ids::slot_count` meets its contract: the count is the package's field.
+-- `records::slot_count` meets its contract: the count is the package's field.
 use Rattle.ray_tracing.specs.declared.TlasPackage.{TlasPackage}
 use mathlib.Core.Path.{ap}
 use borrow.Author.Needs.{needs}
-use Rattle.build_ids.proofs.slot_count.Statement.{statement}
-use Rattle.build_ids.proofs.slot_count.Tie as tie
+use Rattle.records.proofs.slot_count.Statement.{statement}
+use Rattle.records.proofs.slot_count.Tie as tie
 
 returns : tie.Need-returns
 returns c = ap (λ (y : TlasPackage). y .«slot_count») (c .before .package-at .ensures)

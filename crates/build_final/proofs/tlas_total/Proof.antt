@@ -1,4 +1,4 @@
--- `build_totals::tlas_total` meets its contract: the total of what is left from package p on, added to what is there, is the whole.
+-- `build_final::tlas_total` meets its contract: the total of what is left from package p on, added to what is there, is the whole.
 use mathlib.Core.Path.{_≡_, sym, ap, _∙_}
 use mathlib.Core.List.{[]}
 use Prim.Native.Nat.{_-_, _≤_}
@@ -6,10 +6,10 @@ use Rattle.scratch.specs.Scratch.{addRounded}
 use Rattle.ray_tracing.specs.declared.Tlas.{Tlas}
 use Rattle.ray_tracing.specs.Plan.{totalFrom, tlasScratch}
 use Rattle.ray_tracing.specs.Parts.{forPackages}
-use Rattle.build_totals.proofs.Laws.{total-start, total-turn, total-done}
+use Rattle.build_final.proofs.Totals.{total-start, total-turn, total-done}
 use borrow.Author.Needs.{needs}
-use Rattle.build_totals.proofs.tlas_total.Statement.{statement}
-use Rattle.build_totals.proofs.tlas_total.Tie as tie
+use Rattle.build_final.proofs.tlas_total.Statement.{statement}
+use Rattle.build_final.proofs.tlas_total.Tie as tie
 
 abbrev Inv-loop : tie.InvT-loop
 Inv-loop alignment tlases packages n total₀ p₀ total p = (p ≤ n) × (totalFrom (tlasScratch (forPackages [] tlases packages [])) alignment total p (n - p) ≡ totalFrom (tlasScratch (forPackages [] tlases packages [])) alignment 0 0 n)

@@ -1,8 +1,8 @@
--- `build_totals::scratch_size` meets its contract: the larger of the two.
+-- `build_final::scratch_size` meets its contract: the larger of the two.
 use Rattle.ray_tracing.specs.Plan.{scratchSize}
 use borrow.Author.Needs.{needs}
-use Rattle.build_totals.proofs.scratch_size.Statement.{statement}
-use Rattle.build_totals.proofs.scratch_size.Tie as tie
+use Rattle.build_final.proofs.scratch_size.Statement.{statement}
+use Rattle.build_final.proofs.scratch_size.Tie as tie
 
 returns : tie.Need-returns
 unfolding scratchSize

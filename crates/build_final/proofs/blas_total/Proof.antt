@@ -1,4 +1,4 @@
--- `build_totals::blas_total` meets its contract: the total of what is left from entry i on, added to what is there, is the whole.
+-- `build_final::blas_total` meets its contract: the total of what is left from entry i on, added to what is there, is the whole.
 use mathlib.Core.Path.{_≡_, sym, ap, _∙_}
 use mathlib.Core.List.{[]}
 use Prim.Native.Nat.{_-_, _≤_}
@@ -6,10 +6,10 @@ use Rattle.scratch.specs.Scratch.{addRounded}
 use Rattle.ray_tracing.specs.declared.Blas.{Blas}
 use Rattle.ray_tracing.specs.Plan.{totalFrom, blasScratch}
 use Rattle.ray_tracing.specs.Parts.{forEntries}
-use Rattle.build_totals.proofs.Laws.{total-start, total-turn, total-done}
+use Rattle.build_final.proofs.Totals.{total-start, total-turn, total-done}
 use borrow.Author.Needs.{needs}
-use Rattle.build_totals.proofs.blas_total.Statement.{statement}
-use Rattle.build_totals.proofs.blas_total.Tie as tie
+use Rattle.build_final.proofs.blas_total.Statement.{statement}
+use Rattle.build_final.proofs.blas_total.Tie as tie
 
 abbrev Inv-loop : tie.InvT-loop
 Inv-loop alignment blases entries n total₀ i₀ total i = (i ≤ n) × (totalFrom (blasScratch (forEntries [] blases [] entries [])) alignment total i (n - i) ≡ totalFrom (blasScratch (forEntries [] blases [] entries [])) alignment 0 0 n)

@@ -1,9 +1,9 @@
--- `build_ids::geometry_count` meets its contract: the count is the entry's field.
+-- `records::geometry_count` meets its contract: the count is the entry's field.
 use Rattle.ray_tracing.specs.declared.BlasBuildEntry.{BlasBuildEntry}
 use mathlib.Core.Path.{ap}
 use borrow.Author.Needs.{needs}
-use Rattle.build_ids.proofs.geometry_count.Statement.{statement}
-use Rattle.build_ids.proofs.geometry_count.Tie as tie
+use Rattle.records.proofs.geometry_count.Statement.{statement}
+use Rattle.records.proofs.geometry_count.Tie as tie
 
 returns : tie.Need-returns
 returns c = ap (λ (y : BlasBuildEntry). y .«geometry_count») (c .before .entry-at .ensures)
