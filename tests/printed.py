@@ -41,15 +41,34 @@ def explanation(refusal):
         position, kind = place
         if number == 21:
             names = ["Blas"]
-        if number == 42 and kind == 2:
-            names = ["Tlas", "Blas"]
-        items = [(KINDS[kind] + " at action", position), *zip(names, figures)]
+        if number == 42 and kind != 1:
+            names = ["Tlas", "Blas"] if kind == 2 else ["Blas or Tlas", "Tlas or Blas"]
+        items = [(KINDS[kind] + " at action" if kind in KINDS else "action", position), *zip(names, figures)]
     elif number in (21, 22):
-        *where, sort = SORTS[figures[0]]
+        *where, sort = SORTS[1] if number == 22 else SORTS.get(figures[0], ("entry", "geometry", "resource"))
         items = [*zip(where, place), (sort, figures[1])]
     else:
         items = [*zip(PLACES.get(number, ("entry", "geometry")), place), *zip(names, figures)]
     return f"refused {number}: " + ", ".join([words, *(f"{name} {value}" for name, value in items)]) + "\n"
+
+
+# the numbers that a call refuses with: 1 reads a sheet, 2 builds, 3 submits, 4 appends an instance
+CALLS = {1: range(1, 6), 2: (4, 5, 6, *range(10, 40)), 3: (4, 5, 6, 21, *range(39, 45)), 4: (6, 34, 35, 39)}
+
+
+def words(call, number, e0, e1, f0, f1, f2):
+    """The words of a call's refusal, by the numbers that it answers."""
+    if number == 0:
+        return explanation(None)
+    if number not in CALLS.get(call, ()):
+        return f"refused {number}: no such cause\n"
+    if call == 1:
+        return explanation(("sheet", number, e0, ()))
+    if call == 2:
+        return explanation(("build", number, (e0, e1), (f0, f1, f2)))
+    if call == 3:
+        return explanation(("action", number, (e0, e1), (f0, f1)))
+    return f"refused {number}: {CAUSES[number][0]}\n"
 
 
 def told(data):

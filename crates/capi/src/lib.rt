@@ -4,6 +4,7 @@ use capi_answers::append_answer;
 use capi_answers::build_answer;
 use capi_answers::report_answer;
 use capi_answers::sheet_answer;
+use explain::explain;
 use instance::append_instance;
 use instance::instance_from;
 use ray_tracing::AppendAnswer;
@@ -14,16 +15,19 @@ use ray_tracing::SheetAnswer;
 use ray_tracing::TlasId;
 use ray_tracing::Validated;
 use report::report;
+use report_words::Refusal;
+use report_words::words;
 use sheet::read_sheet;
 use submit::validate_acceleration_structure_actions;
 ghost use mathlib.Core.Path.{_≡_};
 ghost use lib.ListN.{length};
 ghost use Rattle.ray_tracing.specs.Reading.{readSheet};
-ghost use Rattle.ray_tracing.specs.Plan as Plan;
-ghost use Rattle.ray_tracing.specs.Instances.{instanceFrom, appendRule, appendBytes};
+ghost use Rattle.ray_tracing.specs.Instances.{instanceFrom, AppendsAs};
 ghost use Rattle.ray_tracing.specs.Submission.{buffersOf, pieceOf, Validates};
-ghost use Rattle.ray_tracing.specs.Report.{reportRule, reportBytes};
-ghost use Rattle.ray_tracing.specs.Plan.{tablesOf, outputsOf, outputsAfter};
+ghost use Rattle.ray_tracing.specs.Report as Report;
+ghost use Rattle.ray_tracing.specs.Report.{PutsAs};
+ghost use Rattle.ray_tracing.specs.Explain.{explained, wordsOf};
+ghost use Rattle.ray_tracing.specs.Plan.{tablesOf, outputsOf, BuildsAs};
 ghost use Rattle.ray_tracing.specs.Answers.{sheetAnswer, builtAnswer, appendAnswer, reportAnswer};
 
 #[no_mangle]
@@ -52,12 +56,14 @@ pub extern "C" fn zakvind_build(
     compactable: &mut [u16],
     lists: &mut [u16],
 ) -> BuildAnswer
-    ensures { λ r. ⌜ r
-        ≡ builtAnswer (Plan.build (tablesOf alignment (now (buffers .entry)) (now (blases .entry)) (now (declared .entry)) (now (tlases .entry)) (now (entries .entry)) (now (geometries .entry)) (now (packages .entry)) (now (slots .entry)))
-        (outputsOf (now («blas_offsets» .entry)) (now («tlas_offsets» .entry)) (now («staging_ranges» .entry)) (now (instances .entry)) (now («init_ranges» .entry)) (now (compactable .entry)) (now (lists .entry)))) ⌝ }
-    ensures { λ _. ⌜ outputsOf (now («blas_offsets» .exit)) (now («tlas_offsets» .exit)) (now («staging_ranges» .exit)) (now (instances .exit)) (now («init_ranges» .exit)) (now (compactable .exit)) (now (lists .exit))
-        ≡ outputsAfter (tablesOf alignment (now (buffers .entry)) (now (blases .entry)) (now (declared .entry)) (now (tlases .entry)) (now (entries .entry)) (now (geometries .entry)) (now (packages .entry)) (now (slots .entry)))
-        (outputsOf (now («blas_offsets» .entry)) (now («tlas_offsets» .entry)) (now («staging_ranges» .entry)) (now (instances .entry)) (now («init_ranges» .entry)) (now (compactable .entry)) (now (lists .entry))) ⌝ }
+    ensures { λ r. ⌜ BuildsAs builtAnswer
+        (tablesOf alignment (now (buffers .entry)) (now (blases .entry)) (now (declared .entry)) (now (tlases .entry))
+        (now (entries .entry)) (now (geometries .entry)) (now (packages .entry)) (now (slots .entry)))
+        (outputsOf (now («blas_offsets» .entry)) (now («tlas_offsets» .entry)) (now («staging_ranges» .entry))
+        (now (instances .entry)) (now («init_ranges» .entry)) (now (compactable .entry)) (now (lists .entry)))
+        r
+        (outputsOf (now («blas_offsets» .exit)) (now («tlas_offsets» .exit)) (now («staging_ranges» .exit))
+        (now (instances .exit)) (now («init_ranges» .exit)) (now (compactable .exit)) (now (lists .exit))) ⌝ }
 {
     build_answer(build_acceleration_structures(
         alignment,
@@ -117,17 +123,55 @@ pub extern "C" fn zakvind_append_instance(
     instances: &mut [u8],
     used: u64,
 ) -> AppendAnswer
-    ensures { λ r. ⌜ r ≡ appendAnswer (appendRule (now (tlases .entry)) (now (blases .entry)) (record { 0 = tlas }) (instanceFrom (now (instance .entry)) 0) (length (now (instances .entry))) used) ⌝ }
-    ensures { λ _. ⌜ now (instances .exit) ≡ appendBytes (now (tlases .entry)) (now (blases .entry)) (record { 0 = tlas }) (instanceFrom (now (instance .entry)) 0) (now (instances .entry)) used ⌝ }
+    ensures { λ r. ⌜ AppendsAs (appendAnswer used)
+        (now (tlases .entry)) (now (blases .entry)) (record { 0 = tlas }) (instanceFrom (now (instance .entry)) 0)
+        (now (instances .entry)) used r (now (instances .exit)) ⌝ }
 {
     let read = instance_from(instance, 0);
-    append_answer(append_instance(tlases, blases, TlasId(tlas), read, instances, used as usize))
+    let used = used as usize;
+    append_answer(
+        used,
+        append_instance(tlases, blases, TlasId(tlas), read, instances, used),
+    )
 }
 
 #[no_mangle]
 pub extern "C" fn zakvind_report(sheet: &[u8], out: &mut [u8]) -> ReportAnswer
-    ensures { λ r. ⌜ r ≡ reportAnswer (reportRule (now (sheet .entry)) (length (now (out .entry)))) ⌝ }
-    ensures { λ _. ⌜ now (out .exit) ≡ reportBytes (now (sheet .entry)) (now (out .entry)) ⌝ }
+    ensures { λ r. ⌜ PutsAs reportAnswer (Report.report (now (sheet .entry))) (now (out .entry)) r (now (out .exit)) ⌝ }
 {
     report_answer(report(sheet, out))
+}
+
+#[no_mangle]
+pub extern "C" fn zakvind_explain(sheet: &[u8], out: &mut [u8]) -> ReportAnswer
+    ensures { λ r. ⌜ PutsAs reportAnswer (explained (now (sheet .entry))) (now (out .entry)) r (now (out .exit)) ⌝ }
+{
+    report_answer(explain(sheet, out))
+}
+
+// The words of a call's refusal: the call is 1 of zakvind_read_sheet (e0 its place), 2 of zakvind_build, 3 of zakvind_submit (e0 its
+// action, e1 the action's kind, 0 where it is not known) or 4 of zakvind_append_instance.
+#[no_mangle]
+pub extern "C" fn zakvind_words(
+    call: u64,
+    number: u64,
+    e0: u64,
+    e1: u64,
+    f0: u64,
+    f1: u64,
+    f2: u64,
+    out: &mut [u8],
+) -> ReportAnswer
+    ensures { λ r. ⌜ PutsAs reportAnswer (wordsOf call number e0 e1 f0 f1 f2) (now (out .entry)) r (now (out .exit)) ⌝ }
+{
+    let refusal = Refusal {
+        call,
+        number,
+        e: e0,
+        f: e1,
+        x: f0,
+        y: f1,
+        z: f2,
+    };
+    report_answer(words(refusal, out))
 }

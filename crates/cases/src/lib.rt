@@ -193,3 +193,12 @@ pub fn print_line(numbers: &[u64])
     }
     io::write_all(STDOUT_FILENO, b"\n");
 }
+
+// The first n bytes of a text, where there are so many; else nothing.
+pub fn print_first(text: &[u8], n: usize)
+    ensures { λ _. ⊤ₛ }
+{
+    if n <= text.len() {
+        io::write_all(STDOUT_FILENO, &text[0..n]);
+    }
+}

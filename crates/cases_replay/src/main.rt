@@ -5,16 +5,10 @@ use libc::STDOUT_FILENO;
 use ray_tracing::Reported;
 use submit::Numbered;
 
-fn print_text(text: &[u8], n: usize) {
-    if n <= text.len() {
-        io::write_all(STDOUT_FILENO, &text[0..n]);
-    }
-}
-
 fn answer_sheet(sheet: &[u8]) {
     let mut text = [0u8; 6134];
     if let Reported::Written(n) = report::report(sheet, &mut text) {
-        print_text(&text, n);
+        cases::print_first(&text, n);
     }
 }
 

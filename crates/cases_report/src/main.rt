@@ -1,21 +1,19 @@
 // Reads sheets from standard input, each after its length as a u32, and prints the lines of each, and then its lines with their refusal
 // in words. tests/make_report_cases.py makes sheets and text.
-use libc::STDOUT_FILENO;
+use cases::print_first;
 use ray_tracing::Reported;
 
-fn print(text: &[u8], n: usize) {
-    if n <= text.len() {
-        io::write_all(STDOUT_FILENO, &text[0..n]);
+fn print_report(sheet: &[u8]) {
+    let mut text = [0u8; 6134];
+    if let Reported::Written(n) = report::report(sheet, &mut text) {
+        print_first(&text, n);
     }
 }
 
-fn answer(sheet: &[u8]) {
+fn print_explained(sheet: &[u8]) {
     let mut text = [0u8; 6381];
-    if let Reported::Written(n) = report::report(sheet, &mut text) {
-        print(&text, n);
-    }
     if let Reported::Written(n) = explain::explain(sheet, &mut text) {
-        print(&text, n);
+        print_first(&text, n);
     }
 }
 
@@ -27,7 +25,8 @@ fn next_case() -> bool {
     }
     let mut bytes = io::large_buffer();
     let n = cases::fill(&mut bytes, length);
-    answer(&bytes[..n]);
+    print_report(&bytes[..n]);
+    print_explained(&bytes[..n]);
     true
 }
 

@@ -14,10 +14,11 @@ use Rattle.ray_tracing.specs.Reading.{Reading, accepted, rejected, readSheet, t
 use Rattle.ray_tracing.specs.Sizes.{longest, longestReport, longestLine}
 use Rattle.ray_tracing.specs.Plan.{sheetTables, Tables, Building, recorded, nothing-recorded, not-built, recordsIn, entryOf, packageOf, planOf, build}
 use Rattle.ray_tracing.specs.Submission as submission
-use Rattle.ray_tracing.specs.Report.{line, word-sheet, word-build, word-scratch, word-blas, word-tlas, word-submit, word-next, blasLines, tlasLines, positions, sheetOutcome, submitNumbers, outcomeLines, submitLines, buildLine, answerLines, builtLines, readingLines, report, reporting, reportRule}
+use Rattle.ray_tracing.specs.Report.{line, word-sheet, word-build, word-scratch, word-blas, word-tlas, word-submit, word-next, blasLines, tlasLines, positions, sheetOutcome, submitNumbers, outcomeLines, submitLines, buildLine, answerLines, builtLines, readingLines, report, reporting, textRule}
 use Rattle.ray_tracing.proofs.Sheets.{lent-tells, accepted-lent}
 use Rattle.ray_tracing.proofs.Longest.{prefix-decides, accepted-longest}
 use Rattle.report_text.proofs.Laws.{line-most}
+use Rattle.report_plan.proofs.Laws.{build-most}
 
 pub longest-report-is : longestReport ≡ 6134
 longest-report-is = refl
@@ -74,9 +75,6 @@ submit-most :
 unfolding submitLines
 submit-most counter x r a = outcome-most (positions r a 0 (length a / size 9)) (sheetOutcome counter x r a)
 
-pub build-most : (e f : ℕ) (c : Cause) → length (buildLine e f c) ≤ longestLine word-build 6
-build-most e f c = line-most word-build (c .number ∷ e ∷ f ∷ c .first ∷ c .second ∷ c .third ∷ [])
-
 answer-most :
     (counter : ℕ) (x : Tables) (a : List ℕ) (b : Building)
     → recordsIn x 5 ≤ layout 5 .most
@@ -111,8 +109,8 @@ unfolding report
 report-most s = reading-most s (readSheet s) refl
 
 -- with that much room none is refused
-pub never-short : (s : List ℕ) (room : ℕ) → longestReport ≤ room → reportRule s room ≡ reporting 0 (length (report s))
-unfolding reportRule
+pub never-short : (s : List ℕ) (room : ℕ) → longestReport ≤ room → textRule (report s) room ≡ reporting 0 (length (report s))
+unfolding textRule
 never-short s room h = rw (le-ltb room (length (report s)) (omega (arith, report-most s)))
 
 -- ---- the first bytes of a sheet

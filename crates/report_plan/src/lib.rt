@@ -29,7 +29,8 @@ fn put_blas_line(entries: &[u8], offsets: &[u64], i: usize, out: &mut [u8], at: 
 fn put_blas_lines(entries: &[u8], offsets: &[u64], out: &mut [u8], at: usize) -> usize
     requires { ⌜ entriesIn (now entries) ≤ length (now offsets) ⌝ }
     requires { ⌜ at + entriesIn (now entries) * longestLine word-blas 2 ≤ length (now out) ⌝ }
-    ensures { λ r. ⌜ Put (now (out .entry)) at (blasLinesOf (now (entries .entry)) (now (offsets .entry)) 0 (entriesIn (now (entries .entry))))
+    ensures { λ r. ⌜ Put (now (out .entry)) at
+        (blasLinesOf (now (entries .entry)) (now (offsets .entry)) 0 (entriesIn (now (entries .entry))))
         r (now (out .exit)) ⌝ }
 {
     let n = entries.len() / ENTRY_SIZE;
@@ -91,7 +92,8 @@ fn put_tlas_lines(
 // The line `build`, whose numbers are 0 where nothing is refused.
 pub fn put_build_line(out: &mut [u8], v: Refusal) -> usize
     requires { ⌜ longestLine word-build 6 ≤ length (now out) ⌝ }
-    ensures { λ r. ⌜ Put (now (out .entry)) 0 (buildLine (v .e) (v .f) (cause (v .number) (v .x) (v .y) (v .z))) r (now (out .exit)) ⌝ }
+    ensures { λ r. ⌜ Put (now (out .entry)) 0 (buildLine (v .e) (v .f) (cause (v .number) (v .x) (v .y) (v .z)))
+        r (now (out .exit)) ⌝ }
 {
     let numbers = [v.number, v.e, v.f, v.x, v.y, v.z];
     put_line(out, 0, b"build", &numbers)
@@ -110,7 +112,8 @@ pub fn put_plan(
     at: usize,
 ) -> usize
     requires { ⌜ (entriesIn (now entries) ≤ layout 5 .most) × (packagesIn (now packages) ≤ layout 7 .most) ⌝ }
-    requires { ⌜ (entriesIn (now entries) ≤ length (now «blas_offsets»)) × (packagesIn (now packages) ≤ length (now «tlas_offsets»)) ⌝ }
+    requires { ⌜ entriesIn (now entries) ≤ length (now «blas_offsets») ⌝ }
+    requires { ⌜ packagesIn (now packages) ≤ length (now «tlas_offsets») ⌝ }
     requires { ⌜ (packagesIn (now packages) * 2 ≤ length (now «staging_ranges»)) × (at + longestPlan ≤ length (now out)) ⌝ }
     ensures { λ r. ⌜ Put (now (out .entry)) at
         (cond recorded (planLines size (now (entries .entry)) (now (packages .entry))

@@ -1,12 +1,16 @@
 // The lines `submit` and `next`: a sheet's actions, submitted.
-use causes::submission_figures;
-use ray_tracing::BuildAccelerationStructureError;
-use ray_tracing::SheetError;
+use ray_tracing::ACTION_SIZE;
+use ray_tracing::ENTRY_SIZE;
+use ray_tracing::PACKAGE_SIZE;
 use ray_tracing::Submitted;
-use ray_tracing::ValidateAsActionsError;
+use ray_tracing::TLAS_ROOM;
+use ray_tracing::TLAS_SIZE;
 use ray_tracing::either;
 use report_text::put;
 use report_text::put_line;
+use report_words::Refusal;
+use report_words::action_refusal;
+use report_words::no_refusal;
 use submit::submit;
 use wire::u8_at;
 use wire::u16_at;
@@ -15,20 +19,16 @@ ghost use mathlib.Core.List.{[], _∷_, _++_};
 ghost use Prim.Native.Nat.{_+_, _*_, _≤_, _<_};
 ghost use lib.ListN.{length, getD};
 ghost use lib.Seq.{sets};
-ghost use Rattle.ray_tracing.specs.Report.{line, word-submit, word-next, kept, actionCells, positions, submitNumbers};
-ghost use Rattle.ray_tracing.specs.Submission.{counterOf, answerOf};
-ghost use Rattle.report_text.specs.Put.{Put};
-ghost use Rattle.report_submit.specs.Parts.{actionsIn, kindOf, keptCells, Lendable, submissionLines};
+ghost use Rattle.ray_tracing.specs.Layout.{layout};
+ghost use Rattle.ray_tracing.specs.Report.{line, word-submit, word-next, kept, outcomeLines};
+ghost use Rattle.ray_tracing.specs.Sizes.{longestLine};
+ghost use Rattle.ray_tracing.specs.Explain.{outcomeRefusal};
+ghost use Rattle.ray_tracing.specs.Submission.{counterOf, outcomeOf};
 ghost use Rattle.ray_tracing.specs.Parts.{packagesIn, entriesIn, listing};
-ghost use Rattle.report_submit.specs.Refused.{refusalOf, answerRefused, submissionRefusal};
-
-// What a report tells of a refusal; it tells at most one. An action has its position in the sheet and its kind.
-pub enum Refusal {
-    Nothing,
-    Sheet(SheetError, usize),
-    Build(BuildAccelerationStructureError, usize, usize),
-    Action(ValidateAsActionsError, usize, u8),
-}
+ghost use Rattle.report_text.specs.Put.{Put};
+ghost use Rattle.report_words.specs.Refused.{Refuses};
+ghost use Rattle.report_submit.specs.Parts.{actionsIn, kindOf, keptCells, allCells, places};
+ghost use Rattle.report_submit.specs.Parts.{lentParts, submissionOutcome, Lendable};
 
 // Where the text ends, and what it refuses.
 pub struct Printed {
@@ -64,10 +64,12 @@ fn put_action(
     at: usize,
 ) -> usize
     requires { ⌜ (i < actionsIn (now actions)) × (at + 4 ≤ length (now cells)) ⌝ }
-    requires { ⌜ (entriesIn (now entries) ≤ 64) × (packagesIn (now packages) ≤ 32) ⌝ }
-    ensures { λ r. ⌜ Put (now (cells .entry)) at (keptCells (listing (now (entries .entry)) (now (packages .entry))) recorded (now (actions .entry)) i) r (now (cells .exit)) ⌝ }
+    requires { ⌜ (entriesIn (now entries) ≤ layout 5 .most) × (packagesIn (now packages) ≤ layout 7 .most) ⌝ }
+    ensures { λ r. ⌜ Put (now (cells .entry)) at
+        (keptCells (listing (now (entries .entry)) (now (packages .entry))) recorded (now (actions .entry)) i)
+        r (now (cells .exit)) ⌝ }
 {
-    let kind = u8_at(actions, i * 3);
+    let kind = u8_at(actions, i * ACTION_SIZE);
     if !is_kept(recorded, kind) {
         return at;
     }
@@ -77,8 +79,8 @@ fn put_action(
             at,
             1,
             0,
-            (entries.len() / 5) as u32,
-            (packages.len() / 4) as u32,
+            (entries.len() / ENTRY_SIZE) as u32,
+            (packages.len() / PACKAGE_SIZE) as u32,
         );
         return at + 4;
     }
@@ -86,7 +88,7 @@ fn put_action(
         cells,
         at,
         kind as u32,
-        u16_at(actions, i * 3 + 1) as u32,
+        u16_at(actions, i * ACTION_SIZE + 1) as u32,
         0,
         0,
     );
@@ -101,10 +103,12 @@ fn put_actions(
     cells: &mut [u32],
 ) -> usize
     requires { ⌜ actionsIn (now actions) * 4 ≤ length (now cells) ⌝ }
-    requires { ⌜ (entriesIn (now entries) ≤ 64) × (packagesIn (now packages) ≤ 32) ⌝ }
-    ensures { λ r. ⌜ Put (now (cells .entry)) 0 (actionCells (listing (now (entries .entry)) (now (packages .entry))) recorded (now (actions .entry)) 0 (actionsIn (now (actions .entry)))) r (now (cells .exit)) ⌝ }
+    requires { ⌜ (entriesIn (now entries) ≤ layout 5 .most) × (packagesIn (now packages) ≤ layout 7 .most) ⌝ }
+    ensures { λ r. ⌜ Put (now (cells .entry)) 0
+        (allCells (listing (now (entries .entry)) (now (packages .entry))) recorded (now (actions .entry)))
+        r (now (cells .exit)) ⌝ }
 {
-    let n = actions.len() / 3;
+    let n = actions.len() / ACTION_SIZE;
     let mut end: usize = 0;
     let mut i: usize = 0;
     while i < n {
@@ -116,15 +120,15 @@ fn put_actions(
 
 // The position of the k-th action that is kept.
 fn position_of(recorded: bool, actions: &[u8], k: usize) -> usize
-    ensures { λ r. ⌜ r ≡ getD (positions recorded (now (actions .entry)) 0 (actionsIn (now (actions .entry)))) k 0 ⌝ }
+    ensures { λ r. ⌜ r ≡ getD (places recorded (now (actions .entry))) k 0 ⌝ }
 {
-    let n = actions.len() / 3;
+    let n = actions.len() / ACTION_SIZE;
     let mut left = k;
     let mut i: usize = 0;
     while i < n {
         let here = i;
         i += 1;
-        if !is_kept(recorded, u8_at(actions, here * 3)) {
+        if !is_kept(recorded, u8_at(actions, here * ACTION_SIZE)) {
             continue;
         }
         if left == 0 {
@@ -139,31 +143,47 @@ fn position_of(recorded: bool, actions: &[u8], k: usize) -> usize
 fn kind_at(actions: &[u8], i: usize) -> u8
     ensures { λ r. ⌜ r ≡ kindOf (now (actions .entry)) i ⌝ }
 {
-    if i < (actions.len() + 2) / 3 {
-        return u8_at(actions, i * 3);
+    if i < (actions.len() + 2) / ACTION_SIZE {
+        return u8_at(actions, i * ACTION_SIZE);
     }
     0
 }
 
-fn put_outcome(
-    out: &mut [u8],
-    at: usize,
-    number: u64,
-    action: u64,
-    first: u64,
-    second: u64,
-    counter: u64,
-) -> usize
-    requires { ⌜ at + 117 ≤ length (now out) ⌝ }
-    ensures { λ r. ⌜ Put (now (out .entry)) at (line word-submit (number ∷ action ∷ first ∷ second ∷ []) ++ line word-next (counter ∷ [])) r (now (out .exit)) ⌝ }
+// What a refusal tells, at the position of the sheet's action.
+fn told(recorded: bool, actions: &[u8], submitted: Submitted) -> Refusal
+    ensures { λ r. ⌜ Refuses r
+        (outcomeRefusal (now (actions .entry)) (places recorded (now (actions .entry))) (outcomeOf submitted [] [] [] [])) ⌝ }
 {
-    let numbers = [number, action, first, second];
+    match submitted {
+        Submitted::Accepted(_) => no_refusal(),
+        Submitted::Refused(e, i, _) => {
+            let action = position_of(recorded, actions, i);
+            action_refusal(e, action, kind_at(actions, action))
+        }
+    }
+}
+
+fn counter_in(submitted: Submitted) -> u64
+    ensures { λ r. ⌜ r ≡ counterOf submitted ⌝ }
+{
+    match submitted {
+        Submitted::Accepted(counter) => counter,
+        Submitted::Refused(_, _, counter) => counter,
+    }
+}
+
+fn put_outcome(out: &mut [u8], at: usize, v: Refusal, counter: u64) -> usize
+    requires { ⌜ at + longestLine word-submit 4 + longestLine word-next 1 ≤ length (now out) ⌝ }
+    ensures { λ r. ⌜ Put (now (out .entry)) at
+        (line word-submit (v .number ∷ v .e ∷ v .x ∷ v .y ∷ []) ++ line word-next (counter ∷ []))
+        r (now (out .exit)) ⌝ }
+{
+    let numbers = [v.number, v.e, v.x, v.y];
     let end = put_line(out, at, b"submit", &numbers);
     let next = [counter];
     put_line(out, end, b"next", &next)
 }
 
-// A refusal's position is that of the sheet's action.
 fn put_submitted(
     recorded: bool,
     actions: &[u8],
@@ -171,29 +191,16 @@ fn put_submitted(
     out: &mut [u8],
     at: usize,
 ) -> Printed
-    requires { ⌜ at + 117 ≤ length (now out) ⌝ }
-    ensures { λ r. ⌜ Put (now (out .entry)) at (line word-submit (submitNumbers (positions recorded (now (actions .entry)) 0 (actionsIn (now (actions .entry)))) (answerOf submitted)) ++ line word-next (counterOf submitted ∷ [])) (r .end) (now (out .exit)) ⌝ }
-    ensures { λ r. ⌜ refusalOf (r .refusal) ≡ answerRefused (now (actions .entry)) (positions recorded (now (actions .entry)) 0 (actionsIn (now (actions .entry)))) (answerOf submitted) ⌝ }
+    requires { ⌜ at + longestLine word-submit 4 + longestLine word-next 1 ≤ length (now out) ⌝ }
+    ensures { λ r. ⌜ Put (now (out .entry)) at
+        (outcomeLines (places recorded (now (actions .entry))) (outcomeOf submitted [] [] [] []))
+        (r .end) (now (out .exit)) ⌝ }
+    ensures { λ r. ⌜ Refuses (r .refusal)
+        (outcomeRefusal (now (actions .entry)) (places recorded (now (actions .entry))) (outcomeOf submitted [] [] [] [])) ⌝ }
 {
-    match submitted {
-        Submitted::Accepted(counter) => {
-            let end = put_outcome(out, at, 0, 0, 0, 0, counter);
-            Printed {
-                end,
-                refusal: Refusal::Nothing,
-            }
-        }
-        Submitted::Refused(e, i, counter) => {
-            let f = submission_figures(e);
-            let action = position_of(recorded, actions, i);
-            let kind = kind_at(actions, action);
-            let end = put_outcome(out, at, f.number, action as u64, f.first, f.second, counter);
-            Printed {
-                end,
-                refusal: Refusal::Action(e, action, kind),
-            }
-        }
-    }
+    let refusal = told(recorded, actions, submitted);
+    let end = put_outcome(out, at, refusal, counter_in(submitted));
+    Printed { end, refusal }
 }
 
 // Submits the actions on copies of the two tables, with empty starting lists.
@@ -209,9 +216,19 @@ pub fn put_submission(
     out: &mut [u8],
     at: usize,
 ) -> Printed
-    requires { ⌜ Lendable (now blases) (now tlases) (now entries) (now packages) (now actions) × (at + 117 ≤ length (now out)) ⌝ }
-    ensures { λ r. ⌜ Put (now (out .entry)) at (submissionLines counter (now (blases .entry)) (now (tlases .entry)) (now (entries .entry)) (now (packages .entry)) recorded (now (actions .entry)) (now (lists .entry))) (r .end) (now (out .exit)) ⌝ }
-    ensures { λ r. ⌜ refusalOf (r .refusal) ≡ submissionRefusal counter (now (blases .entry)) (now (tlases .entry)) (now (entries .entry)) (now (packages .entry)) recorded (now (actions .entry)) (now (lists .entry)) ⌝ }
+    requires { ⌜ Lendable (now blases) (now tlases) (now entries) (now packages) (now actions) ⌝ }
+    requires { ⌜ at + longestLine word-submit 4 + longestLine word-next 1 ≤ length (now out) ⌝ }
+    ensures { λ r. ⌜ Put (now (out .entry)) at
+        (outcomeLines (places recorded (now (actions .entry)))
+        (submissionOutcome counter
+        (lentParts (now (blases .entry)) (now (tlases .entry)) (now (entries .entry)) (now (packages .entry)))
+        recorded (now (actions .entry)) (now (lists .entry))))
+        (r .end) (now (out .exit)) ⌝ }
+    ensures { λ r. ⌜ Refuses (r .refusal)
+        (outcomeRefusal (now (actions .entry)) (places recorded (now (actions .entry)))
+        (submissionOutcome counter
+        (lentParts (now (blases .entry)) (now (tlases .entry)) (now (entries .entry)) (now (packages .entry)))
+        recorded (now (actions .entry)) (now (lists .entry)))) ⌝ }
 {
     let mut lent_blases = [0u8; 3584];
     let mut lent_tlases = [0u8; 704];
@@ -221,8 +238,8 @@ pub fn put_submission(
     let b = put(&mut lent_blases, 0, blases);
     let t = put(&mut lent_tlases, 0, tlases);
     let used = put_actions(recorded, actions, entries, packages, &mut cells);
-    let n = tlases.len() / 22;
-    let room = n * 512;
+    let n = tlases.len() / TLAS_SIZE;
+    let room = n * TLAS_ROOM;
     let submitted = submit(
         counter,
         &mut lent_blases[..b],

@@ -1,4 +1,4 @@
 pub mod Laws
 pub mod Refusals
 pub mod Longest
-pub mod Told
+pub mod Refused

@@ -1,3 +1,3 @@
-pub mod Told
+pub mod Refused
 pub mod Lines
 pub mod Longest

@@ -66,8 +66,8 @@ actionLine kind n = lineOf n ("K" is 69 ∷ actionItems kind (cause n 88 89 0))
 abbrev pub appendLine : ℕ → List ℕ
 appendLine n = lineOf n []
 
--- none and any number; a sheet's; a build's, and 21 of a Blas, of a Tlas, of no sort; a submission's, with 42 of a Build, and 42 of a
--- use and of no kind; an append's
+-- none and any number; a sheet's; a build's, and 21 of a Blas, of a Tlas, of no sort; a submission's, with 42 of a Build, and 42 of
+-- a use and of no kind; an append's
 unfoldable pub lines : List ℕ
 lines =
     ascii "nothing is refused\nrefused #: no such cause\n"

@@ -22,10 +22,11 @@ ghost use Rattle.ray_tracing.specs.Report.{ascii, reportedOf, Puts};
 ghost use Rattle.ray_tracing.specs.Explain.{kindWords, between, nothing, of-sheet, of-build, of-action};
 ghost use Rattle.causes.specs.Figures.{causeOf};
 ghost use Rattle.report_text.specs.Put.{Put};
-ghost use Rattle.report_words.specs.Told.{refusedBy, wordsIn, Tells};
+ghost use Rattle.report_words.specs.Refused.{refusedBy, wordsIn, Refuses};
 ghost use Rattle.report_words.specs.Longest.{longestExplanation};
 ghost use Rattle.report_words.specs.Lines.{numberFor, isNumber, letter, filled, pastLines, lines};
-ghost use Rattle.report_words.specs.Lines.{destroyedPlace, buildPlace, unbuiltPlace, actionPlace, appendPlace, linePlace};
+ghost use Rattle.report_words.specs.Lines.{destroyedPlace, buildPlace, unbuiltPlace, actionPlace};
+ghost use Rattle.report_words.specs.Lines.{appendPlace, linePlace};
 
 // The call that refuses, by its number (1 reads a sheet, 2 builds, 3 submits, 4 appends an instance), the refusal's number, place and
 // figures; an action is in E and its kind in F. Number 0 refuses nothing.
@@ -40,7 +41,7 @@ pub struct Refusal {
 }
 
 pub fn no_refusal() -> Refusal
-    ensures { λ r. ⌜ Tells r nothing ⌝ }
+    ensures { λ r. ⌜ Refuses r nothing ⌝ }
 {
     Refusal {
         call: 0,
@@ -54,7 +55,7 @@ pub fn no_refusal() -> Refusal
 }
 
 pub fn sheet_refusal(e: SheetError, place: usize) -> Refusal
-    ensures { λ r. ⌜ Tells r (of-sheet (sheetNumber e) place) ⌝ }
+    ensures { λ r. ⌜ Refuses r (of-sheet (sheetNumber e) place) ⌝ }
 {
     Refusal {
         call: 1,
@@ -82,13 +83,13 @@ fn refused_by(call: u64, e: usize, f: usize, cause: Figures) -> Refusal
 }
 
 pub fn build_refusal(error: BuildAccelerationStructureError, e: usize, g: usize) -> Refusal
-    ensures { λ r. ⌜ Tells r (of-build e g (buildCause error)) ⌝ }
+    ensures { λ r. ⌜ Refuses r (of-build e g (buildCause error)) ⌝ }
 {
     refused_by(2, e, g, build_figures(error))
 }
 
 pub fn action_refusal(error: ValidateAsActionsError, i: usize, kind: u8) -> Refusal
-    ensures { λ r. ⌜ Tells r (of-action i kind (submissionCause error)) ⌝ }
+    ensures { λ r. ⌜ Refuses r (of-action i kind (submissionCause error)) ⌝ }
 {
     refused_by(3, i, kind as usize, submission_figures(error))
 }

@@ -1,10 +1,14 @@
 -- `capi::zakvind_build` meets its contract: the answer is the build's in numbers, and the outputs are as the build leaves them. Assumes nothing.
+use mathlib.Core.Path.{ap, _∙_}
+use Rattle.ray_tracing.specs.Answers.{builtAnswer}
 use borrow.Author.Needs.{needs}
 use Rattle.capi.proofs.zakvind_build.Statement.{statement}
 use Rattle.capi.proofs.zakvind_build.Tie as tie
 
 returns : tie.Need-returns
-returns c = (rw (← c .before .before .before .before .before .before .before .before .before .before .before .before .before .before .before .build-acceleration-structures .ensures .0) (c .build-answer .ensures), c .before .before .before .before .before .before .before .before .before .before .before .before .before .before .before .build-acceleration-structures .ensures .1)
+returns c =
+    let builds = c .before .before .before .before .before .before .before .before .before .before .before .before .before .before .before .build-acceleration-structures .ensures in
+    record { answer = c .build-answer .ensures ∙ ap builtAnswer (builds .answer); left = builds .left }
 
 pub zakvind-build-spec : {M : Type 1} → statement M
 zakvind-build-spec =

@@ -11,7 +11,7 @@ use Rattle.report_plan.proofs.put_plan.Statement.{statement}
 use Rattle.report_plan.proofs.put_plan.Tie as tie
 
 returns : tie.Need-returns
-returns c = rw (not-true _ (c .if1 .taken)) (put-nothing _ _)
+returns c = rw (not-true (c .before .before .before .before .before .before .before .args .recorded) (c .if1 .taken)) (put-nothing _ _)
 
 put-blas-lines-requires : tie.Need-put-blas-lines-requires
 put-blas-lines-requires c κs =
@@ -31,7 +31,7 @@ put-tlas-lines-requires c κs =
 
 returns-2 : tie.Need-returns-2
 returns-2 c =
-    rw (not-false _ (c .before .before .before .before .before .before .before .before .before .before .before .before .before .before .if1 .left))
+    rw (not-false (c .before .before .before .before .before .before .before .before .before .before .before .before .before .before .before .before .before .before .before .before .before .args .recorded) (c .before .before .before .before .before .before .before .before .before .before .before .before .before .before .if1 .left))
     (put-then (c .before .before .before .before .before .before .before .before .before .before .put-line .ensures) (put-then (c .before .before .before .before .before .before .put-blas-lines .ensures) (c .before .before .put-tlas-lines .ensures)))
 
 pub put-plan-spec : {M : Type 1} → statement M

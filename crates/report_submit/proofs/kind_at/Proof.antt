@@ -2,6 +2,7 @@
 use Prim.Native.Nat.{_*_}
 use native.Mathlib.Omega.{arith}
 use lib.ListN.{List·getD-eq-default}
+use Rattle.ray_tracing.specs.Layout.{size}
 use Rattle.wire.specs.Wire.{leAt}
 use borrow.Author.Needs.{needs}
 use Rattle.report_submit.proofs.kind_at.Statement.{statement}
@@ -11,7 +12,7 @@ returns-2 : tie.Need-returns-2
 unfolding leAt
 returns-2 c =
     let a = c .before .before .args in
-    let past = List·getD-eq-default (a .actions .now) 0 {n = a .i * 3} (omega (arith, c .if1 .left)) in
+    let past = List·getD-eq-default (a .actions .now) 0 {n = a .i * size 9} (omega (arith, c .if1 .left)) in
     omega arith
 
 pub kind-at-spec : {M : Type 1} → statement M

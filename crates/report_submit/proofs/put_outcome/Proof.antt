@@ -8,7 +8,7 @@ use Rattle.report_submit.proofs.put_outcome.Statement.{statement}
 use Rattle.report_submit.proofs.put_outcome.Tie as tie
 
 put-line-requires-2 : tie.Need-put-line-requires-2
-put-line-requires-2 c κs = let a = c .before .before .before .before .before .before .before .before .before .before .args in let put = c .before .before .before .before .before .put-line .ensures in omega (arith, put-same-length put, put .ends, line-most word-submit (a .number ∷ a .action ∷ a .first ∷ a .second ∷ []))
+put-line-requires-2 c κs = let a = c .before .before .before .before .before .before .before .before .before .before .args in let put = c .before .before .before .before .before .put-line .ensures in omega (arith, put-same-length put, put .ends, line-most word-submit (a .v .number ∷ a .v .e ∷ a .v .x ∷ a .v .y ∷ []))
 
 returns : tie.Need-returns
 returns c = put-then (c .before .before .before .before .before .before .before .before .put-line .ensures) (c .before .before .put-line2 .ensures)

@@ -1,13 +1,13 @@
 -- `report_submit::put_submission` meets its contract: what is lent is what the definition says, cut from the arrays.
 use Prim.Native.Nat.{_*_, _/_, _≤_}
-use mathlib.Core.Path.{_∙_}
 use lib.ListN.{length}
 use native.Mathlib.Omega.{arith}
-use Rattle.report_text.proofs.Laws.{put-within, put-taken}
-use Rattle.ray_tracing.specs.Report.{actionCells}
-use Rattle.report_submit.specs.Parts.{actionsIn}
+use Rattle.report_text.proofs.Laws.{put-within, put-taken, count-is}
+use Rattle.report_submit.specs.Parts.{allCells, places}
+use Rattle.ray_tracing.specs.Layout.{size}
+use Rattle.ray_tracing.specs.Submission.{mostDependencies}
 use Rattle.ray_tracing.specs.Parts.{listing}
-use Rattle.report_submit.proofs.Laws.{cells-fit, count-is, zeros, lines-are, refusal-is}
+use Rattle.report_submit.proofs.Laws.{cells-fit, zeros, outcome-is, lines-told, refusal-told}
 use borrow.Author.Needs.{needs}
 use Rattle.report_submit.proofs.put_submission.Statement.{statement}
 use Rattle.report_submit.proofs.put_submission.Tie as tie
@@ -16,7 +16,7 @@ use Rattle.report_submit.proofs.put_submission.Tie as tie
 fitting :
     (c : tie.Start)
     → let a = c .args in
-    length (actionCells (listing (a .entries .now) (a .packages .now)) (a .recorded) (a .actions .now) 0 (actionsIn (a .actions .now))) ≤ 256
+    length (allCells (listing (a .entries .now) (a .packages .now)) (a .recorded) (a .actions .now)) ≤ 256
 fitting c =
     let a = c .args in
     cells-fit (listing (a .entries .now) (a .packages .now)) (a .recorded) (a .actions .now) (c .pre .0 .few-actions)
@@ -52,13 +52,20 @@ returns c =
     let start = blases .before .before .before .before .before .before .before .before .before in
     let a = start .args in
     let few = start .pre .0 in
-    let n = length (a .tlases .now) / 22 in
+    let n = length (a .tlases .now) / size 4 in
     let b = put-taken (blases .put .ensures) (few .blas-bytes) in
     let t = put-taken (tlases .put2 .ensures) (few .tlas-bytes) in
     let c = zeros n 32 (omega (arith, few .tlas-bytes)) in
-    let d = zeros (n * 512) 16384 (omega (arith, few .tlas-bytes)) in
+    let d = zeros (n * mostDependencies) 16384 (omega (arith, few .tlas-bytes)) in
     let l = put-taken (acted .put-actions .ensures) (fitting start) in
-    (rw (lines-are (a .counter) (a .blases .now) (a .tlases .now) (a .entries .now) (a .packages .now) (a .recorded) (a .actions .now) (a .lists .now) (submitted .submit .result) (submitted .submit .ensures) b t c d l) at (put .put-submitted .ensures .0), put .put-submitted .ensures .1 ∙ refusal-is (a .counter) (a .blases .now) (a .tlases .now) (a .entries .now) (a .packages .now) (a .recorded) (a .actions .now) (a .lists .now) (submitted .submit .result) (submitted .submit .ensures) b t c d l)
+    let o =
+    outcome-is (a .counter) (a .blases .now) (a .tlases .now) (a .entries .now) (a .packages .now) (a .recorded) (a .actions .now)
+    (a .lists .now) (submitted .submit .ensures) b t c d l in
+    let s = submitted .submit .result in
+    let p = places (a .recorded) (a .actions .now) in (
+      rw (lines-told s (a .actions .now) p o) at (put .put-submitted .ensures .0),
+      rw (refusal-told s (a .actions .now) p o) at (put .put-submitted .ensures .1),
+    )
 
 pub put-submission-spec : {M : Type 1} → statement M
 put-submission-spec =

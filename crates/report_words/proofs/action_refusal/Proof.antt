@@ -1,7 +1,7 @@
 -- `report_words::action_refusal` meets its contract: each cause is one that a submission gives.
 use mathlib.Core.Path.{ap, _∙_}
-use Rattle.report_words.specs.Told.{refusedBy}
-use Rattle.report_words.proofs.Told.{action-told}
+use Rattle.report_words.specs.Refused.{refusedBy}
+use Rattle.report_words.proofs.Refused.{action-told}
 use borrow.Author.Needs.{needs}
 use Rattle.report_words.proofs.action_refusal.Statement.{statement}
 use Rattle.report_words.proofs.action_refusal.Tie as tie

@@ -1,7 +1,7 @@
 -- `report_words::build_refusal` meets its contract: each cause is one that a build gives.
 use mathlib.Core.Path.{ap, _∙_}
-use Rattle.report_words.specs.Told.{refusedBy}
-use Rattle.report_words.proofs.Told.{build-told}
+use Rattle.report_words.specs.Refused.{refusedBy}
+use Rattle.report_words.proofs.Refused.{build-told}
 use borrow.Author.Needs.{needs}
 use Rattle.report_words.proofs.build_refusal.Statement.{statement}
 use Rattle.report_words.proofs.build_refusal.Tie as tie

@@ -1,5 +1,5 @@
 -- `report_words::no_refusal` meets its contract.
-use Rattle.report_words.proofs.Told.{tells-nothing}
+use Rattle.report_words.proofs.Refused.{tells-nothing}
 use borrow.Author.Needs.{needs}
 use Rattle.report_words.proofs.no_refusal.Statement.{statement}
 use Rattle.report_words.proofs.no_refusal.Tie as tie

@@ -1,5 +1,5 @@
 -- `report_words::sheet_refusal` meets its contract: each cause is one that reading gives.
-use Rattle.report_words.proofs.Told.{sheet-told}
+use Rattle.report_words.proofs.Refused.{sheet-told}
 use borrow.Author.Needs.{needs}
 use Rattle.report_words.proofs.sheet_refusal.Statement.{statement}
 use Rattle.report_words.proofs.sheet_refusal.Tie as tie

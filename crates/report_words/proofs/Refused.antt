@@ -12,13 +12,13 @@ use Rattle.ray_tracing.specs.Causes.{sheetNumber, buildCause, submissionCause}
 use Rattle.causes.specs.Figures.{plainly}
 use Rattle.ray_tracing.specs.Explain.{nothing, of-sheet, of-build, of-action, wordsOf}
 use Rattle.report_words.specs.declared.Refusal.{Refusal}
-use Rattle.report_words.specs.Told.{refusedBy, toldOf, Tells}
+use Rattle.report_words.specs.Refused.{refusedBy, toldOf, Refuses}
 
-pub tells-nothing : Tells (toldOf nothing) nothing
+pub tells-nothing : Refuses (toldOf nothing) nothing
 unfolding wordsOf
 tells-nothing = record { numbers = refl; words = refl }
 
-pub sheet-told : (e : SheetError) (place : ℕ) → Tells (toldOf (of-sheet (sheetNumber e) place)) (of-sheet (sheetNumber e) place)
+pub sheet-told : (e : SheetError) (place : ℕ) → Refuses (toldOf (of-sheet (sheetNumber e) place)) (of-sheet (sheetNumber e) place)
 unfolding wordsOf
 sheet-told sheet.UnknownVersion place = record { numbers = refl; words = refl }
 sheet-told sheet.Truncated place = record { numbers = refl; words = refl }
@@ -26,7 +26,7 @@ sheet-told sheet.TrailingBytes place = record { numbers = refl; words = refl }
 sheet-told sheet.TooMany place = record { numbers = refl; words = refl }
 sheet-told sheet.InvalidValue place = record { numbers = refl; words = refl }
 
-pub build-told : (error : BuildAccelerationStructureError) (e g : ℕ) → Tells (refusedBy 2 e g (buildCause error)) (of-build e g (buildCause error))
+pub build-told : (error : BuildAccelerationStructureError) (e g : ℕ) → Refuses (refusedBy 2 e g (buildCause error)) (of-build e g (buildCause error))
 unfolding wordsOf
 build-told build.TooMany e g = record { numbers = refl; words = refl }
 build-told build.InvalidValue e g = record { numbers = refl; words = refl }
@@ -66,7 +66,7 @@ build-told build.OutputTooShort e g = record { numbers = refl; words = refl }
 
 pub action-told :
     (error : ValidateAsActionsError) (i kind : ℕ)
-    → Tells (refusedBy 3 i kind (plainly (submissionCause error))) (of-action i kind (submissionCause error))
+    → Refuses (refusedBy 3 i kind (plainly (submissionCause error))) (of-action i kind (submissionCause error))
 unfolding wordsOf
 action-told submission.TooMany i kind = record { numbers = refl; words = refl }
 action-told submission.InvalidValue i kind = record { numbers = refl; words = refl }

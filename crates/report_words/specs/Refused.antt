@@ -22,6 +22,6 @@ abbrev pub wordsIn : Refusal → List ℕ
 wordsIn v = wordsOf (v .call) (v .number) (v .e) (v .f) (v .x) (v .y) (v .z)
 
 -- the code tells of this refusal, which its call can give
-pub record Tells (v : Refusal) (told : explain.Refusal) : Type 0 where
+pub record Refuses (v : Refusal) (told : explain.Refusal) : Type 0 where
   pub numbers : v ≡ toldOf told
   pub words : wordsIn v ≡ explanation told

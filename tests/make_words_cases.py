@@ -1,0 +1,39 @@
+#!/usr/bin/env python3
+"""Writes crates/cases_words/stdin, refusals each as a u32 1 and seven u64s, and crates/cases_words/stdout, the words that printed.py has for
+them: every call and number up to a few past the last, with each sort and kind, small numbers and the largest."""
+import pathlib
+import random
+import struct
+
+from paper import U64
+from printed import CALLS, words
+
+
+def cases():
+    for call in (*range(7), U64):
+        for number in (*range(50), U64 - 1, U64):
+            yield call, number, 1, 2, 3, 4, 5
+            yield call, number, U64, U64, U64, U64, U64
+    for f0 in (*range(6), U64):
+        for number in (21, 22):
+            yield 2, number, 7, 8, f0, 9, 10
+    for kind in (*range(7), U64):
+        for number in CALLS[3]:
+            yield 3, number, 11, kind, 12, 13, 14
+    rng = random.Random(27)
+    for _ in range(300):
+        call = rng.randrange(1, 5)
+        yield call, rng.choice(CALLS[call]), *(rng.choice((rng.randrange(5), rng.randrange(U64 + 1))) for _ in range(5))
+
+
+def main():
+    folder = pathlib.Path(__file__).resolve().parent.parent / "crates/cases_words"
+    some = list(cases())
+    (folder / "stdin").write_bytes(b"".join(struct.pack("<I7Q", 1, *case) for case in some))
+    texts = [words(*case) for case in some]
+    (folder / "stdout").write_text("".join(texts))
+    print(f"{len(texts)} refusals, of up to {max(map(len, texts))} bytes of text")
+
+
+if __name__ == "__main__":
+    main()
