@@ -14,7 +14,7 @@ returns-3 : tie.Need-returns-3
 returns-3 c = rw (c .before .t .given .1, c .before .before .before .before .i2 .given .1, c .before .before .before .before .before .before .before .v2 .given .1)
 
 returns-4 : tie.Need-returns-4
-returns-4 c = rw (c .before .t2 .given .1, c .before .before .before .before .i2 .given .1, c .before .before .before .before .before .before .before .v2 .given .1, append-nil)
+returns-4 c = rw (c .before .t2 .given .1, c .before .before .before .before .i2 .given .1, c .before .before .before .before .before .before .before .v2 .given .1) (simp append-nil)
 
 pub buffers-of-spec : {M : Type 1} → statement M
 buffers-of-spec =
