@@ -13,7 +13,7 @@ use Rattle.ray_tracing.specs.Plan as plan
 use Rattle.ray_tracing.proofs.Inside.{inside}
 use Rattle.build_judge.specs.declared.Judgement.{Judgement}
 use Rattle.build_judge.specs.declared.Judgement.the-variants as judgement
-use Rattle.build_judge.specs.Judging.{BuildJudged, not-built, nothing, to-record, judgementOf, judgeBuild}
+use Rattle.build_judge.specs.Judging.{BuildJudged, to-refuse, to-record-nothing, to-record, judgementOf, judgeBuild}
 use Rattle.build_judge.proofs.Answer.{Passed, nothing-passed, recorded-passed, answer-refused, answer-nothing, answer-recorded}
 use Rattle.build_ranges.specs.Ranges.{DrawnFit}
 use Rattle.build_plan.specs.Planned.{planned, Plannable}
@@ -110,8 +110,8 @@ module _ (x : Tables) where
 
 module _ (x : Tables) (o : Outputs) where
   left-by : (j : BuildJudged) → judgeBuild x ≡ j → leaves (build x o) (planFrom x) o ≡ leaves (build x o) (plan.planOf x) o
-  left-by (not-built e f c) h = rw (answer-refused x o e f c h)
-  left-by nothing h = ap (λ (p : Outputs). leaves (build x o) p o) (plan-from x (nothing-passed x h))
+  left-by (to-refuse e f c) h = rw (answer-refused x o e f c h)
+  left-by to-record-nothing h = ap (λ (p : Outputs). leaves (build x o) p o) (plan-from x (nothing-passed x h))
   left-by (to-record n) h = ap (λ (p : Outputs). leaves (build x o) p o) (plan-from x (recorded-passed x n h))
 
   -- what is left is what the plan leaves
@@ -120,12 +120,12 @@ module _ (x : Tables) (o : Outputs) where
 
   module _ (bytes : (k : ℕ) → getD (x .buffers) k 0 < 256) where
     writes-by : (j : BuildJudged) → judgeBuild x ≡ j → Writes (build x o) x o
-    writes-by (not-built e f c) h =
+    writes-by (to-refuse e f c) h =
         record {
           plan = λ n w q. let r = answer-refused x o e f c h in let z : _≡_ {A = ℕ} 0 1 = cc in absurd (omega arith);
           ranges = λ n q. let r = answer-refused x o e f c h in let z : _≡_ {A = ℕ} 0 1 = cc in absurd (omega arith);
         }
-    writes-by nothing h =
+    writes-by to-record-nothing h =
         let p = nothing-passed x h in
         let r = sym (answer-nothing x o h) in
         record {
