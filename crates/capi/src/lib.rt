@@ -9,35 +9,25 @@ use instance::append_instance;
 use instance::instance_from;
 use ray_tracing::AppendAnswer;
 use ray_tracing::BuildAnswer;
+use ray_tracing::CommandIndices;
 use ray_tracing::ReportAnswer;
 use ray_tracing::SheetAnswer;
 use ray_tracing::TlasId;
+use ray_tracing::Validated;
 use report::report;
 use report_words::Refusal;
 use report_words::words;
 use sheet::read_sheet;
-use submit::CommandIndices;
-use submit::submit_numbers;
+use submit::validate_acceleration_structure_actions;
 ghost use mathlib.Core.Path.{_≡_};
-ghost use lib.ListN.{length};
 ghost use Rattle.ray_tracing.specs.Reading.{readSheet};
+ghost use Rattle.ray_tracing.specs.Plan.{tablesOf, outputsOf, BuildsAs};
 ghost use Rattle.ray_tracing.specs.Instances.{instanceFrom, AppendsAs};
-ghost use Rattle.ray_tracing.specs.Submission.{submission, decode, lentOf, pieceOf};
+ghost use Rattle.ray_tracing.specs.Submission.{buffersOf, pieceOf, Validates};
 ghost use Rattle.ray_tracing.specs.Report as Report;
 ghost use Rattle.ray_tracing.specs.Report.{PutsAs};
 ghost use Rattle.ray_tracing.specs.Explain.{explained, wordsOf};
-ghost use Rattle.ray_tracing.specs.Plan.{tablesOf, outputsOf, BuildsAs};
-ghost use Rattle.submit.specs.Numbers.{shown};
 ghost use Rattle.ray_tracing.specs.Answers.{sheetAnswer, builtAnswer, appendAnswer, reportAnswer};
-ghost use Rattle.capi.specs.Told.{submitTold};
-
-#[repr(C)]
-pub struct SubmitAnswer {
-    pub number: u64,
-    pub action: u64,
-    pub f0: u64,
-    pub f1: u64,
-}
 
 #[no_mangle]
 pub extern "C" fn zakvind_read_sheet(sheet: &[u8]) -> SheetAnswer
@@ -103,28 +93,24 @@ pub extern "C" fn zakvind_submit(
     dependencies: &mut [u16],
     actions: &[u32],
     lists: &[u16],
-) -> SubmitAnswer
-    ensures { λ r. ⌜ (submitTold r (now (indices .exit) .«next_acceleration_structure_build_command_index») (now (blases .exit)) (now (tlases .exit)) (now («dependency_counts» .exit)) (now (dependencies .exit))
-        ≡ shown (submission (lentOf (now (indices .entry) .«next_acceleration_structure_build_command_index») (now (blases .entry)) (now (tlases .entry)) (now («dependency_counts» .entry)) (now (dependencies .entry))) (decode (pieceOf (now (actions .entry)) (now (lists .entry))))))
-        × (now (indices .exit) .«active_submission_index» ≡ now (indices .entry) .«active_submission_index») ⌝ }
+) -> Validated
+    ensures { λ r. ⌜ Validates
+        (now (indices .entry))
+        (buffersOf (now (blases .entry)) (now (tlases .entry)) (now («dependency_counts» .entry)) (now (dependencies .entry)))
+        (pieceOf (now (actions .entry)) (now (lists .entry)))
+        r
+        (now (indices .exit))
+        (buffersOf (now (blases .exit)) (now (tlases .exit)) (now («dependency_counts» .exit)) (now (dependencies .exit))) ⌝ }
 {
-    let counter = indices.next_acceleration_structure_build_command_index;
-    let s = submit_numbers(
-        counter,
+    validate_acceleration_structure_actions(
+        indices,
         blases,
         tlases,
         dependency_counts,
         dependencies,
         actions,
         lists,
-    );
-    indices.next_acceleration_structure_build_command_index = s.counter;
-    SubmitAnswer {
-        number: s.number,
-        action: s.action,
-        f0: s.first,
-        f1: s.second,
-    }
+    )
 }
 
 #[no_mangle]
