@@ -20,14 +20,13 @@ use report_words::words;
 use sheet::read_sheet;
 use submit::validate_acceleration_structure_actions;
 ghost use mathlib.Core.Path.{_≡_};
-ghost use lib.ListN.{length};
 ghost use Rattle.ray_tracing.specs.Reading.{readSheet};
+ghost use Rattle.ray_tracing.specs.Plan.{tablesOf, outputsOf, BuildsAs};
 ghost use Rattle.ray_tracing.specs.Instances.{instanceFrom, AppendsAs};
 ghost use Rattle.ray_tracing.specs.Submission.{buffersOf, pieceOf, Validates};
 ghost use Rattle.ray_tracing.specs.Report as Report;
 ghost use Rattle.ray_tracing.specs.Report.{PutsAs};
 ghost use Rattle.ray_tracing.specs.Explain.{explained, wordsOf};
-ghost use Rattle.ray_tracing.specs.Plan.{tablesOf, outputsOf, BuildsAs};
 ghost use Rattle.ray_tracing.specs.Answers.{sheetAnswer, builtAnswer, appendAnswer, reportAnswer};
 
 #[no_mangle]

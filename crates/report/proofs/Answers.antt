@@ -3,23 +3,40 @@ use Prim.Native.Nat.{ℕ, zero, suc, _+_, _*_, _/_, _≤_, _<_}
 use native.Mathlib.Nat.{zero-add}
 use native.Mathlib.Omega.{arith}
 use mathlib.Core.Bool.{Bool, true, false, cond}
-use mathlib.Core.Path.{_≡_, refl, ap}
-use mathlib.Core.List.{List, [], append-assoc}
+use mathlib.Core.Path.{_≡_, refl, sym, ap, _∙_}
+use mathlib.Core.List.{List, [], append-assoc, append-nil}
 use lib.ListN.{length, take, drop, getD}
 use lib.Seq.{sets, sets-eq, take-at}
 use Rattle.ray_tracing.specs.declared.Written.{Written}
 use Rattle.ray_tracing.specs.Layout.{size}
-use Rattle.ray_tracing.specs.Plan.{Tables, Outputs, Building, recorded, nothing-recorded, not-built, recordsIn, planOf, build, leaves, blasScratch, tlasScratch}
-use Rattle.ray_tracing.specs.Report.{actionCells, positions, sheetOutcome, outcomeLines, blasLines, tlasLines, submitLines, answerLines}
+use Rattle.ray_tracing.specs.Plan.{
+  Tables,
+  Outputs,
+  Building,
+  recorded,
+  nothing-recorded,
+  not-built,
+  recordsIn,
+  planOf,
+  build,
+  leaves,
+  outputsAfter,
+  blasScratch,
+  tlasScratch,
+}
+use Rattle.ray_tracing.specs.Report.{sheetOutcome, outcomeLines, blasLines, tlasLines, submitLines, answerLines}
 use Rattle.ray_tracing.specs.Explain.{outcomeRefusal, submitRefusal, answerRefusal}
 use Rattle.ray_tracing.proofs.Inside.{Inside}
 use Rattle.ray_tracing.proofs.Plan.{offsets-length, staging-length}
 use Rattle.ray_tracing.proofs.PlanLaws.{judged, facts}
 use Rattle.wire.proofs.Laws.{sets-within}
-use Rattle.report_submit.specs.Parts.{submissionOutcome, submissionLines}
-use Rattle.ray_tracing.specs.Parts.{listing}
-use Rattle.report_submit.specs.Refused.{submissionRefusal}
-use Rattle.report.specs.Parts.{blasLinesOf, tlasLinesOf, answerLinesOf, answerRefusalOf, tableLines, tableRefusal}
+use Rattle.report_words.specs.declared.Refusal.{Refusal}
+use Rattle.report_words.specs.Refused.{toldOf, Refuses}
+use Rattle.report_plan.specs.Lines.{blasLinesOf, tlasLinesOf}
+use Rattle.report_submit.specs.Parts.{actionsIn, places, lentParts, submissionOutcome}
+use Rattle.report_submit.proofs.Laws.{cells-are}
+use Rattle.report.specs.declared.Came.{Came}
+use Rattle.report.specs.Parts.{cameOf, refusalOf, answerLinesOf, Answered, tableLines, tableRefusal}
 use Rattle.report.proofs.Room.{Roomy, build-with-room, lists-room}
 
 -- ---- what is written, read back
@@ -52,26 +69,22 @@ module _
     tlas-lines-are p (suc m) l =
         rw (h p (omega arith), g (2 * p) (omega arith), g (2 * p + 1) (omega arith), tlas-lines-are (p + 1) m (omega arith))
 
--- the cells of actions go by the entries and the packages alone
-cells-are :
-    (x : Tables) (r : Bool) (a : List ℕ) (i n : ℕ)
-    → actionCells (listing (x .entries) (x .packages)) r a i n ≡ actionCells x r a i n
-unfolding actionCells
-cells-are x r a i zero = refl
-cells-are x r a i (suc n) = rw (cells-are x r a (i + 1) n)
+-- the tables that a submission looks at
+abbrev partsOf : Tables → Tables
+partsOf x = lentParts (x .blases) (x .tlases) (x .entries) (x .packages)
 
-module _ (counter : ℕ) (x : Tables) (r : Bool) (a l : List ℕ) (e : l ≡ cond r (planOf x .lists) []) where
-  outcome-is : submissionOutcome counter (x .blases) (x .tlases) (x .entries) (x .packages) r a l ≡ sheetOutcome counter x r a
+module _ (counter : ℕ) (x : Tables) (r : Bool) (a : List ℕ) {l : List ℕ} (e : l ≡ cond r (planOf x .lists) []) where
+  outcome-is : submissionOutcome counter (partsOf x) r a l ≡ sheetOutcome counter x r a
   unfolding submissionOutcome
-  outcome-is = rw (e, cells-are x r a 0 (length a / size 9))
+  outcome-is = rw (e, sym (cells-are (partsOf x) r a 0 (actionsIn a)) ∙ cells-are x r a 0 (actionsIn a))
 
-  submit-lines-are : submissionLines counter (x .blases) (x .tlases) (x .entries) (x .packages) r a l ≡ submitLines counter x r a
-  unfolding submissionLines submitLines
-  submit-lines-are = ap (outcomeLines (positions r a 0 (length a / size 9))) outcome-is
+  submit-lines-are : outcomeLines (places r a) (submissionOutcome counter (partsOf x) r a l) ≡ submitLines counter x r a
+  unfolding submitLines
+  submit-lines-are = ap (outcomeLines (places r a)) outcome-is
 
-  submit-refusal-is : submissionRefusal counter (x .blases) (x .tlases) (x .entries) (x .packages) r a l ≡ submitRefusal counter x r a
-  unfolding submissionRefusal submitRefusal
-  submit-refusal-is = ap (outcomeRefusal a (positions r a 0 (length a / size 9))) outcome-is
+  submit-refusal-is : outcomeRefusal a (places r a) (submissionOutcome counter (partsOf x) r a l) ≡ submitRefusal counter x r a
+  unfolding submitRefusal
+  submit-refusal-is = ap (outcomeRefusal a (places r a)) outcome-is
 
 -- ---- the answer
 
@@ -101,9 +114,6 @@ module _ (counter : ℕ) (x : Tables) (o : Outputs) (a : List ℕ) (room : Roomy
     lists-count : w .lists ≡ length (planOf x .lists)
     lists-count = ap (λ (w : Written). w .lists) (judged x o n w e .counts)
 
-    pub lists-fit : w .lists ≤ length (o .lists)
-    lists-fit = rw lists-count (lists-room x i o room)
-
     blases-are :
         blasLinesOf (x .entries) (sets (o .«blas_offsets») 0 (planOf x .«blas_offsets»)) 0 (recordsIn x 5)
         ≡ blasLines x 0 (recordsIn x 5)
@@ -128,51 +138,54 @@ module _ (counter : ℕ) (x : Tables) (o : Outputs) (a : List ℕ) (room : Roomy
     lists-are : take (w .lists) (sets (o .lists) 0 (planOf x .lists)) ≡ planOf x .lists
     lists-are = rw lists-count (written-all (o .lists) (planOf x .lists) (lists-room x i o room))
 
+  lists-within : (v : Building) → build x o ≡ v → cameOf v .lists ≤ length (o .lists)
+  lists-within (not-built e f c) h = omega arith
+  lists-within (nothing-recorded n) h = omega arith
+  lists-within (recorded n w) h = rw (lists-count n w h) (lists-room x (i n w h) o room)
+
   -- with what it left of the outputs
   abbrev linesAfter : Building → List ℕ
   linesAfter v =
-      answerLinesOf counter (x .blases) (x .tlases) (x .entries) (x .packages) a
+      answerLinesOf (cameOf v) (toldOf (refusalOf v)) counter (partsOf x) a
       (leaves v (planOf x) o .«blas_offsets»)
       (leaves v (planOf x) o .«tlas_offsets»)
       (leaves v (planOf x) o .«staging_ranges»)
-      (leaves v (planOf x) o .lists)
-      v
+      (take (cameOf v .lists) (leaves v (planOf x) o .lists))
 
   lines-are : (v : Building) → build x o ≡ v → linesAfter v ≡ answerLines counter x a v
-  lines-are (not-built e f c) h = refl
-  lines-are (nothing-recorded n) h = rw (submit-lines-are counter x false a [] refl)
+  lines-are (not-built e f c) h = rw append-nil
+  lines-are (nothing-recorded n) h = rw (submit-lines-are counter x false a refl)
   lines-are (recorded n w) h =
-      rw (
-        blases-are n w h,
-        tlases-are n w h,
-        submit-lines-are counter x true a (take (w .lists) (sets (o .lists) 0 (planOf x .lists))) (lists-are n w h),
-      )
-      (simp append-assoc)
+      rw (blases-are n w h, tlases-are n w h, submit-lines-are counter x true a (lists-are n w h)) (simp append-assoc)
 
   refusal-is :
       (v : Building)
       → build x o ≡ v
-      → answerRefusalOf counter (x .blases) (x .tlases) (x .entries) (x .packages) a (leaves v (planOf x) o .lists) v
-      ≡ answerRefusal counter x a v
-  refusal-is (not-built e f c) h = refl
-  refusal-is (nothing-recorded n) h = submit-refusal-is counter x false a [] refl
-  refusal-is (recorded n w) h =
-      submit-refusal-is counter x true a (take (w .lists) (sets (o .lists) 0 (planOf x .lists))) (lists-are n w h)
+      → {given printed : Refusal}
+      → Refuses given (refusalOf v)
+      → Answered (cameOf v) given a
+      (submissionOutcome counter (partsOf x) (cameOf v .recorded) a (take (cameOf v .lists) (leaves v (planOf x) o .lists))) printed
+      → Refuses printed (answerRefusal counter x a v)
+  refusal-is (not-built e f c) h g r = rw (r .built refl) g
+  refusal-is (nothing-recorded n) h g r = rw (submit-refusal-is counter x false a refl) at (r .submitted refl)
+  refusal-is (recorded n w) h g r = rw (submit-refusal-is counter x true a (lists-are n w h)) at (r .submitted refl)
 
-  -- the code's answer v, and the outputs q that it left
-  pub built-lines :
-      {v : Building} {q : Outputs}
-      → v ≡ build x o
-      → q ≡ leaves (build x o) (planOf x) o
-      → answerLinesOf counter (x .blases) (x .tlases) (x .entries) (x .packages) a (q .«blas_offsets») (q .«tlas_offsets») (q .«staging_ranges») (q .lists) v
-      ≡ tableLines counter x a
-  unfolding tableLines
-  built-lines e f = rw (e, f, ← build-with-room x o room) (lines-are (build x o) refl)
+  -- the code's answer v, in plain values, and the outputs q that it left
+  module _ {v : Building} {q : Outputs} {came : Came} (e : v ≡ build x o) (f : q ≡ outputsAfter x o) (g : came ≡ cameOf v) where
+    pub lists-fit : came .lists ≤ length (o .lists)
+    lists-fit = rw (g, e) (lists-within (build x o) refl)
 
-  pub built-refusal :
-      {v : Building} {q : Outputs}
-      → v ≡ build x o
-      → q ≡ leaves (build x o) (planOf x) o
-      → answerRefusalOf counter (x .blases) (x .tlases) (x .entries) (x .packages) a (q .lists) v ≡ tableRefusal counter x a
-  unfolding tableRefusal
-  built-refusal e f = rw (e, f, ← build-with-room x o room) (refusal-is (build x o) refl)
+    module _ {given : Refusal} (r : Refuses given (refusalOf v)) where
+      pub built-lines :
+          answerLinesOf came given counter (partsOf x) a (q .«blas_offsets») (q .«tlas_offsets») (q .«staging_ranges»)
+          (take (came .lists) (q .lists))
+          ≡ tableLines counter x a
+      unfolding tableLines
+      built-lines = rw (r .numbers, g, e, f, ← build-with-room x o room) (lines-are (build x o) refl)
+
+      pub built-refusal :
+          {printed : Refusal}
+          → Answered came given a (submissionOutcome counter (partsOf x) (came .recorded) a (take (came .lists) (q .lists))) printed
+          → Refuses printed (tableRefusal counter x a)
+      unfolding tableRefusal
+      built-refusal p = rw (← build-with-room x o room) (refusal-is (build x o) refl (rw e at r) (rw (g, e, f) at p))

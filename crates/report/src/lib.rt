@@ -80,8 +80,9 @@ fn refusal_in(built: Built) -> Refusal
     ensures { λ r. ⌜ Refuses r (refusalOf (buildingOf built)) ⌝ }
 {
     match built {
+        Built::Recorded(_, _) => no_refusal(),
+        Built::NothingRecorded(_) => no_refusal(),
         Built::Refused(error, e, g) => build_refusal(error, e, g),
-        _ => no_refusal(),
     }
 }
 
