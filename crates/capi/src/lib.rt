@@ -9,7 +9,7 @@ use capi_answers::build_answer;
 use capi_answers::report_answer;
 use capi_answers::sheet_answer;
 use instance::append_instance;
-use instance::instance_from;
+use instance_bytes::instance_from;
 use ray_tracing::TlasId;
 use report::report;
 use sheet::read_sheet;

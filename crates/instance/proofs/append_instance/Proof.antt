@@ -29,26 +29,35 @@ returns c =
     let w = when-done (a .tlases .now) (a .blases .now) (a .tlas) (a .instance) (a .instances .now) (a .used)
     (fine-is _ _ (c .before .before .before .before .before .before .before .before .before .check-named-tlas .ensures) (c .before .before .before .before .before .before .before .enum-told .given .1))
     (omega (arith, c .before .before .before .before .before .before .if1 .taken, c .before .before .before .before .before .if2 .taken)) in
-    (w .0, c .before .before .put-instance .ensures ∙ ap (λ (x : ℕ). sets (a .instances .now) (a .used) (instanceBytes (a .instance) x)) (c .before .before .before .before .address-of .ensures) ∙ w .1)
+    record {
+      answer = w .0;
+      left =
+          c .before .before .put-instance .ensures
+          ∙ ap (λ (x : ℕ). sets (a .instances .now) (a .used) (instanceBytes (a .instance) x)) (c .before .before .before .before .address-of .ensures)
+          ∙ w .1;
+    }
 
 returns-2 : tie.Need-returns-2
 returns-2 c =
     let a = c .before .before .before .before .before .before .before .args in
-    when-refused (a .tlases .now) (a .blases .now) (a .tlas) (a .instance) (a .instances .now) (a .used) _ _ (c .before .before .before .check-named-tlas .ensures) (c .before .checked .given .1)
+    let w = when-refused (a .tlases .now) (a .blases .now) (a .tlas) (a .instance) (a .instances .now) (a .used) _ _ (c .before .before .before .check-named-tlas .ensures) (c .before .checked .given .1) in
+    record { answer = w .0; left = w .1 }
 
 returns-3 : tie.Need-returns-3
 returns-3 c =
     let a = c .before .before .before .before .before .before .before .before .args in
-    when-short (a .tlases .now) (a .blases .now) (a .tlas) (a .instance) (a .instances .now) (a .used)
+    let w = when-short (a .tlases .now) (a .blases .now) (a .tlas) (a .instance) (a .instances .now) (a .used)
     (fine-is _ _ (c .before .before .before .before .check-named-tlas .ensures) (c .before .before .enum-told .given .1))
-    (omega arith)
+    (omega arith) in
+    record { answer = w .0; left = w .1 }
 
 returns-4 : tie.Need-returns-4
 returns-4 c =
     let a = c .before .before .before .before .before .before .before .args in
-    when-short (a .tlases .now) (a .blases .now) (a .tlas) (a .instance) (a .instances .now) (a .used)
+    let w = when-short (a .tlases .now) (a .blases .now) (a .tlas) (a .instance) (a .instances .now) (a .used)
     (fine-is _ _ (c .before .before .before .check-named-tlas .ensures) (c .before .enum-told .given .1))
-    (omega arith)
+    (omega arith) in
+    record { answer = w .0; left = w .1 }
 
 pub append-instance-spec : {M : Type 1} → statement M
 append-instance-spec =

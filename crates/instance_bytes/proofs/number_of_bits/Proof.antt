@@ -1,11 +1,11 @@
--- `instance::number_of_bits` meets its contract, by what `is_nan_bits` says.
+-- `instance_bytes::number_of_bits` meets its contract, by what `is_nan_bits` says.
 use mathlib.Core.Path.{refl, sym, _∙_, subst}
 use mathlib.Core.Bool.{Bool, not}
 use lib.Dec.{T}
 use Rattle.ray_tracing.proofs.Numbers.{zero-over-zero, ofBits-nan, nanOf-nan, nanOf-plain}
 use borrow.Author.Needs.{needs}
-use Rattle.instance.proofs.number_of_bits.Statement.{statement}
-use Rattle.instance.proofs.number_of_bits.Tie as tie
+use Rattle.instance_bytes.proofs.number_of_bits.Statement.{statement}
+use Rattle.instance_bytes.proofs.number_of_bits.Tie as tie
 
 float-from-bits-t5 : tie.Need-float-from-bits-t5
 float-from-bits-t5 c = subst (λ (t : Bool). T (not t)) (sym (sym (c .before .is-nan-bits .ensures) ∙ c .if1 .left)) tt

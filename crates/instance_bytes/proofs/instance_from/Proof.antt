@@ -1,4 +1,4 @@
--- `instance::instance_from` meets its contract. The invariant: the first k elements of both arrays are what `instanceFrom` says.
+-- `instance_bytes::instance_from` meets its contract. The invariant: the first k elements of both arrays are what `instanceFrom` says.
 use borrow.Author.Needs.{needs}
 use native.Mathlib.Omega.{arith}
 use mathlib.Core.Path.{_≡_, refl, sym, ap, _∙_}
@@ -8,9 +8,9 @@ use lib.ListN.{length, take, length-set, length-map}
 use lib.Ieee.{Float, binary32, ofBits}
 use Rattle.ray_tracing.specs.Instances.{nanOf, wordsAt, instanceFrom}
 use Rattle.ray_tracing.proofs.Instances.{length-wordsAt, map-words}
-use Rattle.instance.proofs.Laws.{fill, filled}
-use Rattle.instance.proofs.instance_from.Statement.{statement}
-use Rattle.instance.proofs.instance_from.Tie as tie
+use Rattle.instance_bytes.proofs.Laws.{fill, filled}
+use Rattle.instance_bytes.proofs.instance_from.Statement.{statement}
+use Rattle.instance_bytes.proofs.instance_from.Tie as tie
 
 -- what the arrays hold in the end
 abbrev values : List ℕ → ℕ → List Float

@@ -1,4 +1,4 @@
--- `instance::put_transform` meets its contract. The invariant: the first k patterns are written.
+-- `instance_bytes::put_transform` meets its contract. The invariant: the first k patterns are written.
 use borrow.Author.Needs.{needs}
 use native.Mathlib.Omega.{arith}
 use mathlib.Core.Path.{_≡_, refl, sym, ap, _∙_}
@@ -8,9 +8,9 @@ use lib.ListN.{length, take}
 use lib.Seq.{sets, take-all}
 use Rattle.ray_tracing.specs.Instances.{words, patterns}
 use Rattle.ray_tracing.proofs.Instances.{length-patterns, getD-patterns}
-use Rattle.instance.proofs.Laws.{put-more}
-use Rattle.instance.proofs.put_transform.Statement.{statement}
-use Rattle.instance.proofs.put_transform.Tie as tie
+use Rattle.instance_bytes.proofs.Laws.{put-more}
+use Rattle.instance_bytes.proofs.put_transform.Statement.{statement}
+use Rattle.instance_bytes.proofs.put_transform.Tie as tie
 
 abbrev Inv-loop : tie.InvT-loop
 Inv-loop out₀ at transform nan-bits k₀ out k =

@@ -1,11 +1,11 @@
--- `instance::bits_of_number` meets its contract: each way out is a case of `bitsOf`.
+-- `instance_bytes::bits_of_number` meets its contract: each way out is a case of `bitsOf`.
 use mathlib.Core.Path.{sym, _∙_, subst}
 use mathlib.Core.Bool.{Bool, not}
 use lib.Dec.{T}
 use Rattle.ray_tracing.proofs.Numbers.{nan-is, not-nan, bits-kept, bits-quiet, bits-plain}
 use borrow.Author.Needs.{needs}
-use Rattle.instance.proofs.bits_of_number.Statement.{statement}
-use Rattle.instance.proofs.bits_of_number.Tie as tie
+use Rattle.instance_bytes.proofs.bits_of_number.Statement.{statement}
+use Rattle.instance_bytes.proofs.bits_of_number.Tie as tie
 
 float-to-bits-result : tie.Need-float-to-bits-result
 float-to-bits-result c = subst (λ (t : Bool). T (not t)) (sym (not-nan _ (c .if1 .left))) tt

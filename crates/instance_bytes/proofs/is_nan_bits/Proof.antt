@@ -1,9 +1,9 @@
--- `instance::is_nan_bits` meets its contract: `nanBits` is one comparison.
+-- `instance_bytes::is_nan_bits` meets its contract: `nanBits` is one comparison.
 use mathlib.Core.Path.{sym}
 use lib.Ieee.{binary32}
 use lib.Ieee.Bits.{nanBits-above}
-use Rattle.instance.proofs.is_nan_bits.Statement.{statement}
-use Rattle.instance.proofs.is_nan_bits.Tie as tie
+use Rattle.instance_bytes.proofs.is_nan_bits.Statement.{statement}
+use Rattle.instance_bytes.proofs.is_nan_bits.Tie as tie
 
 returns : tie.Need-returns
 returns c = sym (nanBits-above binary32 (c .args .bits))

@@ -1,13 +1,13 @@
--- `instance::put_instance` meets its contract: two writes end to end are one.
+-- `instance_bytes::put_instance` meets its contract: two writes end to end are one.
 use mathlib.Core.Path.{_≡_, sym, ap}
 use Prim.Native.Nat.{ℕ, _+_}
 use lib.ListN.{length}
 use Rattle.ray_tracing.specs.Instances.{words, patterns, tailBytes, instanceBytes}
 use Rattle.ray_tracing.proofs.Instances.{transform-length}
-use Rattle.instance.proofs.Laws.{sets-then}
+use Rattle.instance_bytes.proofs.Laws.{sets-then}
 use borrow.Author.Needs.{needs}
-use Rattle.instance.proofs.put_instance.Statement.{statement}
-use Rattle.instance.proofs.put_instance.Tie as tie
+use Rattle.instance_bytes.proofs.put_instance.Statement.{statement}
+use Rattle.instance_bytes.proofs.put_instance.Tie as tie
 
 -- an array field's length, from what the entry knows: stated at `Start`, since `search` enters at most 128 records
 lengths : (s : tie.Start) → (length (s .args .instance .transform) ≡ 12) × (length (s .args .instance .«nan_bits») ≡ 12)

@@ -1,12 +1,12 @@
--- `instance::put_tail` meets its contract: three writes end to end are one.
+-- `instance_bytes::put_tail` meets its contract: three writes end to end are one.
 use mathlib.Core.Path.{ap}
 use Prim.Native.Nat.{ℕ, _+_, _*_, _^_}
 use Rattle.wire.specs.Wire.{leBytes}
 use Rattle.wire.proofs.Laws.{length-leBytes}
-use Rattle.instance.proofs.Laws.{sets-three}
+use Rattle.instance_bytes.proofs.Laws.{sets-three}
 use borrow.Author.Needs.{needs}
-use Rattle.instance.proofs.put_tail.Statement.{statement}
-use Rattle.instance.proofs.put_tail.Tie as tie
+use Rattle.instance_bytes.proofs.put_tail.Statement.{statement}
+use Rattle.instance_bytes.proofs.put_tail.Tie as tie
 
 returns : tie.Need-returns
 returns c =
