@@ -7,6 +7,7 @@ use ray_tracing::CheckedGeometry;
 use ray_tracing::GivenBuffer;
 use ray_tracing::Range;
 use ray_tracing::Resource;
+use records::TRANSFORM_SIZE;
 use records::index_width;
 use scratch::product_above;
 use scratch::saturating_mul;
@@ -22,9 +23,7 @@ ghost use Rattle.build_buffers.specs.Parts.{verticesOf, indexPartOf, tra
 
 const LIMIT: u64 = 4294967295;
 
-// The bytes of a transform, and what its offset is a multiple of.
-const TRANSFORM_SIZE: u64 = 48;
-
+// What a transform's offset is a multiple of.
 const TRANSFORM_ALIGNMENT: u64 = 16;
 
 // What the check of a buffer finds that must be given, and of one that may be.

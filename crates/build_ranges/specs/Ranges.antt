@@ -6,7 +6,7 @@ use mathlib.Core.List.{List, [], _++_}
 use lib.ListN.{length}
 use lib.Dec.{eqb}
 use Rattle.ray_tracing.specs.declared.BlasGeometry.{BlasGeometry}
-use Rattle.ray_tracing.specs.Layout.{size}
+use Rattle.ray_tracing.specs.Layout.{layout, size}
 use Rattle.ray_tracing.specs.Records.{entryAt, geometryAt}
 use Rattle.ray_tracing.specs.Checks.{range}
 use Rattle.ray_tracing.specs.Triangles.{indexWidth}
@@ -76,7 +76,7 @@ pub record DrawnFit (entries geometries : List ℕ) : Type 0 where
       (i : ℕ)
       → i < entriesIn entries
       → drawnBefore (ofEntries [] entries) i + geometryCount (ofEntries [] entries) i ≤ geometriesIn geometries
-  pub most : geometriesIn geometries ≤ 256
+  pub most : geometriesIn geometries ≤ layout 6 .most
   pub fit :
       (i : ℕ)
       → i < entriesIn entries

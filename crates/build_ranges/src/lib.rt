@@ -6,6 +6,7 @@ use ray_tracing::ENTRY_SIZE;
 use ray_tracing::GEOMETRY_SIZE;
 use ray_tracing::NO_BUFFER;
 use ray_tracing::Range;
+use records::TRANSFORM_SIZE;
 use records::entry_at;
 use records::geometry_at;
 use records::index_width;
@@ -18,9 +19,6 @@ ghost use lib.Seq.{sets};
 ghost use Rattle.ray_tracing.specs.Code.{askedOf, rangeOf};
 ghost use Rattle.build_ranges.specs.Ranges.{dataRange, indexRange, transformRange, geometryRanges, entryRanges, rangesIn};
 ghost use Rattle.build_ranges.specs.Ranges.{RangesFit, AllFit, geometriesIn, DrawnFit};
-
-// The bytes of a transform.
-const TRANSFORM_SIZE: u64 = 48;
 
 // The cells of a range: buffer, start, end.
 const RANGE_CELLS: usize = 3;

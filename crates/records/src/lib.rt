@@ -29,6 +29,9 @@ ghost use Rattle.ray_tracing.specs.Mentions.{bufferMention, blasMention, tlasMe
 ghost use Rattle.ray_tracing.specs.Triangles.{indexWidth};
 ghost use Rattle.ray_tracing.specs.Code.{mentionOf};
 
+// The bytes of a geometry's transform.
+pub const TRANSFORM_SIZE: u64 = 48;
+
 // A mention of an id, which is a number until it is judged here: one function for each sort.
 pub fn buffer_mention(table: &[u8], id: usize) -> Mentioned
     ensures { λ r. ⌜ mentionOf r ≡ bufferMention (now (table .entry)) id ⌝ }
