@@ -19,7 +19,7 @@ use Rattle.build_ranges.specs.Ranges.{DrawnFit}
 use Rattle.build_plan.specs.Planned.{planned, Plannable}
 use Rattle.build_plan.proofs.Judged.{plan-is, geometries-drawn, plannable}
 use Rattle.build_plan.proofs.Lengths.{counts-any}
-use Rattle.build.specs.Room.{recordedIf, nothingIf, planFrom, rangesIn, Writes}
+use Rattle.build.specs.Room.{recordedIf, nothingIf, planFrom, rangesOut, Writes}
 use Rattle.build.proofs.Room.{fits, room-is}
 
 -- ---- an answer that room decides, by a test that it is short
@@ -90,7 +90,7 @@ module _ (x : Tables) where
     module _ (o : Outputs) {lent : Written} (l : countsOf o ≡ lent) where
       -- nothing recorded, or 39
       pub nothing-build :
-          {n : ℕ} → j ≡ judgement.Nothing → n ≡ length (rangesIn x) → nothingIf n (lent .«init_ranges») ≡ build x o
+          {n : ℕ} → j ≡ judgement.Nothing → n ≡ length (rangesOut x) → nothingIf n (lent .«init_ranges») ≡ build x o
       nothing-build h e =
           let cells = e ∙ ap (λ (p : Outputs). length (p .«init_ranges»)) (plan-from (nothing-passed x (told h))) in
           (λ i. nothingIf (cells i) (sym l i .«init_ranges»)) ∙ sym (answer-nothing x o (told h))
@@ -133,7 +133,7 @@ module _ (x : Tables) (o : Outputs) where
           ranges =
               λ n q. (
                 passed-drawn x bytes p,
-                fits (rangesIn x) (o .«init_ranges»)
+                fits (rangesOut x) (o .«init_ranges»)
                     (ap (λ (y : Outputs). short (y .«init_ranges») (o .«init_ranges»)) (plan-from x p)
                     ∙ some-nothing (short (plan.planOf x .«init_ranges») (o .«init_ranges»)) _ n (r ∙ q)),
               );

@@ -70,8 +70,8 @@ module _ (blases s : List ℕ) (at : ℕ) (b : Below s) where
       ∙ getD-wordsAt 12 s (at + 1 + 7) (4 * r + c) 0 h
       ∙ ap (leAt 4 s) (omega arith)
 
-  row-read : (r : ℕ) → r < 3 → {m n : ℕ} → m ≡ n → columns (read .matrix r) m ≡ columns (said .matrix r) n
-  row-read r h e =
+  line-read : (r : ℕ) → r < 3 → {m n : ℕ} → m ≡ n → columns (read .matrix r) m ≡ columns (said .matrix r) n
+  line-read r h e =
       columns-same (read .matrix r) (said .matrix r) (number-read r 0 (omega arith)) (number-read r 1 (omega arith)) (number-read r 2 (omega arith))
       (number-read r 3 (omega arith)) e
 
@@ -79,9 +79,9 @@ module _ (blases s : List ℕ) (at : ℕ) (b : Below s) where
   unfolding vkBytes instanceFrom
   slot-read =
       ap (leBytes 64)
-      (row-read 0 (omega arith)
-      (row-read 1 (omega arith)
-      (row-read 2 (omega arith)
+      (line-read 0 (omega arith)
+      (line-read 1 (omega arith)
+      (line-read 2 (omega arith)
       (λ j. field 24 (slot-custom s at j) (field 8 (leAt 1 s (mask-place j)) (field 24 0 (field 8 0 (field 64 (read .accelerationStructureReference) 0))))))))
     where
       mask-place : at + 1 + 6 ≡ at + 7

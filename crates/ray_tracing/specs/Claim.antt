@@ -40,7 +40,8 @@ pub record ValidateShows (n : ℕ) (x : Buffers) (p : Piece) (s : Shown) : Type 
 -- "refused ones included, each on what the one before left"
 pub data Calls (R : Routine) : ℕ → Buffers → List Piece → ℕ → Buffers → Type 0 where
   noCall : {n : ℕ} {x : Buffers} → Calls R n x [] n x
-  call : {n m : ℕ} {x y : Buffers} {p : Piece} {ps : List Piece} {s : Shown} → R n x p s → Calls R (s .counter) (s .left) ps m y → Calls R n x (p ∷ ps) m y
+  call : {n m : ℕ} {x y : Buffers} {p : Piece} {ps : List Piece} {s : Shown} → R n x p s → Calls R (s .counter) (s .left) ps m y
+      → Calls R n x (p ∷ ps) m y
 
 -- "the first refusal with its figures (actions counted through)", after k actions; number 0 is none
 abbrev pub countedThrough : ℕ → Shown → Shown
@@ -59,9 +60,15 @@ countedThrough k s =
 
 -- "each sent only after the one before was accepted and on the tables, plant lists and counter it left": what its caller has seen at the end
 pub data Sent (R : Routine) : ℕ → Buffers → List Piece → Shown → Type 0 where
-  allSent : {n : ℕ} {x : Buffers} → Sent R n x [] (record { numbers = record { number = 0; action = 0; first = 0; second = 0 }; counter = n; left = x })
-  sendRefused : {n : ℕ} {x : Buffers} {p : Piece} {ps : List Piece} {s : Shown} → R n x p s → ¬ (s .numbers .number ≡ 0) → Sent R n x (p ∷ ps) s
-  send : {n : ℕ} {x : Buffers} {p : Piece} {ps : List Piece} {s r : Shown} → R n x p s → s .numbers .number ≡ 0 → Sent R (s .counter) (s .left) ps r → Sent R n x (p ∷ ps) (countedThrough (length (decode p)) r)
+  allSent : {n : ℕ} {x : Buffers} → Sent R n x [] (record {
+    numbers = record { number = 0; action = 0; first = 0; second = 0 };
+    counter = n;
+    left = x;
+  })
+  sendRefused : {n : ℕ} {x : Buffers} {p : Piece} {ps : List Piece} {s : Shown} → R n x p s → ¬ (s .numbers .number ≡ 0)
+      → Sent R n x (p ∷ ps) s
+  send : {n : ℕ} {x : Buffers} {p : Piece} {ps : List Piece} {s r : Shown} → R n x p s → s .numbers .number ≡ 0
+      → Sent R (s .counter) (s .left) ps r → Sent R n x (p ∷ ps) (countedThrough (length (decode p)) r)
 
 -- a cut of a list of actions: each piece has some of them, with lists of its own or those of the whole
 abbrev pub Cut : Piece → List Piece → Type 0

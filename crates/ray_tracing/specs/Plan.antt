@@ -148,7 +148,8 @@ slotBlas slots s = fieldAt 8 slots (s * size 8) 1
 unfoldable pub declaredFrom : List ℕ → ℕ → ℕ → ℕ → List BlasGeometrySizeDescriptor
 declaredFrom t blas i zero = []
 declaredFrom t blas i (suc n) =
-    cond (eqb (fieldAt 3 t (i * size 3) 0) blas) (declaredAt t (i * size 3) ∷ declaredFrom t blas (i + 1) n) (declaredFrom t blas (i + 1) n)
+    cond (eqb (fieldAt 3 t (i * size 3) 0) blas) (declaredAt t (i * size 3) ∷ declaredFrom t blas (i + 1) n)
+    (declaredFrom t blas (i + 1) n)
 
 -- the j-th of a list, if it has so many
 abbrev pub nth : List BlasGeometrySizeDescriptor → ℕ → Option BlasGeometrySizeDescriptor
@@ -427,7 +428,8 @@ unfoldable pub build : Tables → Outputs → Building
 build x o =
     unless (judgeTables x or judgeIds x or judgeEntries x or judgePackages x)
     (cond (eqb (scratchSize x) 0)
-    (unless (on (short (planOf x .«init_ranges») (o .«init_ranges»)) (refused 0 0 (bare 39))) (nothing-recorded (length (planOf x .«init_ranges»))))
+    (unless (on (short (planOf x .«init_ranges») (o .«init_ranges»)) (refused 0 0 (bare 39)))
+    (nothing-recorded (length (planOf x .«init_ranges»))))
     (unless (judgeFinal x or on (tooShort (planOf x) o) (refused 0 0 (bare 39))) (recorded (scratchSize x) (countsOf (planOf x)))))
 
 -- "Lent output past what is written keeps its bytes"; a refusal leaves all as it was

@@ -409,8 +409,9 @@ numbersOf v = record { number = v .number; action = v .action; first = v .first;
 
 -- "`CommandIndices` is lent by `&mut` and its counter stepped there; `active_submission_index` never moves": a call with the indices i before
 -- it and j after it
-pub record Validates (i : CommandIndices) (x : Buffers) (p : Piece) (v : Validated) (j : CommandIndices) (y : Buffers) : Type 0 where
-  pub shows :
-      record { numbers = numbersOf v; counter = j .«next_acceleration_structure_build_command_index»; left = y }
-      ≡ shown (submission (lentWith (i .«next_acceleration_structure_build_command_index») x) (decode p))
-  pub unmoved : j .«active_submission_index» ≡ i .«active_submission_index»
+pub record Validates (i : CommandIndices) (x : Buffers) (p : Piece) (v : Validated) (j : CommandIndices) (y : Buffers) : Type 0
+  where
+    pub shows :
+        record { numbers = numbersOf v; counter = j .«next_acceleration_structure_build_command_index»; left = y }
+        ≡ shown (submission (lentWith (i .«next_acceleration_structure_build_command_index») x) (decode p))
+    pub unmoved : j .«active_submission_index» ≡ i .«active_submission_index»

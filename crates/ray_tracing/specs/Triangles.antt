@@ -21,7 +21,8 @@ descriptorRule d g =
     (refuse (ltb (d .count) (g .count)) (refused (cause 13 (d .count) (g .count) 0))
     (refuse (neb (d .«vertex_format») (g .«vertex_format»)) (refused (cause 14 (d .«vertex_format») (g .«vertex_format») 0))
     (refuse (ltb (g .stride) (d .«min_vertex_stride»)) (refused (cause 15 (d .«min_vertex_stride») (g .stride) 0))
-    (refuse (neb (g .stride % d .«stride_alignment») 0) (refused (cause 16 (d .«stride_alignment») (g .stride) 0)) (asks (ranges [] [] []))))))
+    (refuse (neb (g .stride % d .«stride_alignment») 0) (refused (cause 16 (d .«stride_alignment») (g .stride) 0))
+    (asks (ranges [] [] []))))))
 
 -- 17 index count on one side only; 18 index count above, 19 format differs; 20 declared, no buffer
 abbrev pub indexSizesRule : BlasGeometrySizeDescriptor → BlasGeometry → Bool → Checked
@@ -103,7 +104,8 @@ declaredRule none f = refused (bare 11)
 declaredRule (some d) f = f d
 
 -- 10 kind mismatch, and the rest in order; flag 1 is USE_TRANSFORM
-abbrev pub trianglesRule : Blas → Option BlasGeometrySizeDescriptor → BlasGeometry → Buffer → Option Buffer → Option Buffer → Checked
+abbrev pub trianglesRule : Blas → Option BlasGeometrySizeDescriptor → BlasGeometry → Buffer → Option Buffer → Option Buffer
+    → Checked
 trianglesRule blas declared g vertices index transform =
     refuse (neb (blas .kind) 0) (refused (bare 10))
     (declaredRule declared

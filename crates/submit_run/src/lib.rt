@@ -13,7 +13,7 @@ ghost use mathlib.Core.Option.{none};
 ghost use Rattle.ray_tracing.specs.Submission as Submission;
 ghost use Rattle.ray_tracing.specs.Submission.{judge, action, decode};
 ghost use Rattle.ray_tracing.specs.Submission.{outcomeOf, lentOf, lentWith, pieceOf, buffersOf};
-ghost use Rattle.submit_checks.specs.Outcome.{causeOf, Acts};
+ghost use Rattle.submit_checks.specs.Outcome.{checkedCause, Acts};
 ghost use Rattle.submit_run.specs.Operand.{operandCause};
 
 // An operand is a number until it is judged.
@@ -21,7 +21,7 @@ const LARGEST_ID: u32 = 65535;
 
 // Of an action that is no Build: 5 of its kind, then 6 of an operand that no id is as large as.
 fn judge_operand(kind: u32, operand: u32) -> Checked
-    ensures { λ r. ⌜ causeOf r ≡ operandCause kind operand ⌝ }
+    ensures { λ r. ⌜ checkedCause r ≡ operandCause kind operand ⌝ }
 {
     if kind < 2 {
         return Checked::Refused(ValidateAsActionsError::InvalidValue);
