@@ -161,7 +161,7 @@ for source in sorted((root / "crates").glob("*/src/**/*.rt")):
         if (function in contracts.ENTRY or function.startswith("zakvind_")) and "requires" in head:
             faults.append(f"{name}: the entry point {function} has a requires")
         if function in CALLS and (contracts.ENTRY.get(function) == crate or crate == "capi"):
-            if not re.search(rf"ensures \{{ λ \w+\. ⌜\s+{CALLS[function]} ", head) or head.count("ensures {") != 1:
+            if not re.search(rf"ensures \{{ λ \w+\. ⌜\s+{CALLS[function]}\s", head) or head.count("ensures {") != 1:
                 faults.append(f"{name}: the contract of {function} is not its one definition, {CALLS[function]}")
 
 # ---- definitions: a name has one meaning over all specs
