@@ -39,6 +39,11 @@ use Rattle.report.specs.declared.Came.{Came}
 use Rattle.report.specs.Parts.{cameOf, refusalOf, answerLinesOf, Answered, tableLines, tableRefusal}
 use Rattle.report.proofs.Room.{Roomy, build-with-room, lists-room}
 
+pub never : true ≡ false → ⊥
+never e =
+    let z : _≡_ {A = ℕ} 0 1 = cc in
+    omega arith
+
 -- ---- what is written, read back
 
 module _ (out values : List ℕ) (h : length values ≤ length out) where

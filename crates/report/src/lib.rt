@@ -30,7 +30,6 @@ ghost use mathlib.Core.Path.{_≡_};
 ghost use mathlib.Core.List.{[], _∷_};
 ghost use Prim.Native.Nat.{_+_, _*_, _≤_};
 ghost use lib.ListN.{length, take, drop};
-ghost use Rattle.ray_tracing.specs.Layout.{layout};
 ghost use Rattle.ray_tracing.specs.Causes.{sheetNumber};
 ghost use Rattle.ray_tracing.specs.Reading.{accepted, readSheet};
 ghost use Rattle.ray_tracing.specs.Plan.{buildingOf, tablesOf};
@@ -51,7 +50,7 @@ struct Came {
     lists: usize,
 }
 
-fn came(built: Built) -> Came
+fn came_to(built: Built) -> Came
     ensures { λ r. ⌜ r ≡ cameOf (buildingOf built) ⌝ }
 {
     match built {
@@ -104,8 +103,8 @@ fn put_answer(
 ) -> Printed
     requires { ⌜ Lendable (now blases) (now tlases) (now entries) (now packages) (now actions) ⌝ }
     requires { ⌜ longestReport ≤ length (now out) ⌝ }
-    requires { ⌜ (layout 5 .most ≤ length (now «blas_offsets»)) × (layout 7 .most ≤ length (now «tlas_offsets»)) ⌝ }
-    requires { ⌜ (2 * layout 7 .most ≤ length (now «staging_ranges»)) × (came .lists ≤ length (now lists)) ⌝ }
+    requires { ⌜ (64 ≤ length (now «blas_offsets»)) × (32 ≤ length (now «tlas_offsets»)) ⌝ }
+    requires { ⌜ (64 ≤ length (now «staging_ranges»)) × (came .lists ≤ length (now lists)) ⌝ }
     ensures { λ r. ⌜ Put (now (out .entry)) 0
         (answerLinesOf came refusal counter
         (lentParts (now (blases .entry)) (now (tlases .entry)) (now (entries .entry)) (now (packages .entry)))
@@ -206,7 +205,7 @@ fn put_built(
         &mut lists,
     );
     put_answer(
-        came(built),
+        came_to(built),
         refusal_in(built),
         counter,
         blases,

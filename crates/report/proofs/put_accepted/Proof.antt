@@ -91,7 +91,7 @@ returns c =
     let t9 = p9 .part9 .ensures ∙ same start 8 (lit< tt) (λ (x : Sheet). x .actions) refl in
     let put = c .before .before .put-built .ensures in (
       rw (accepted-lines (start .args .sheet .now) (start .args .x) t1 t2 t3 t4 t5 t6 t7 t8 t9) at (put .0),
-      put .1 ∙ accepted-refusal (start .args .sheet .now) (start .args .x) t1 t2 t3 t4 t5 t6 t7 t8 t9,
+      rw (accepted-refusal (start .args .sheet .now) (start .args .x) t1 t2 t3 t4 t5 t6 t7 t8 t9) at (put .1),
     )
 
 pub put-accepted-spec : {M : Type 1} → statement M

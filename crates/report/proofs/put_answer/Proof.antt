@@ -1,62 +1,76 @@
--- `report::put_answer` meets its contract, by the three cases of the answer.
+-- `report::put_answer` meets its contract: the line of the build, and unless it refuses those of the plan and of the submission.
+use Prim.Native.Nat.{ℕ, _≤_}
 use native.Mathlib.Omega.{arith}
-use mathlib.Core.Path.{ap}
-use Rattle.ray_tracing.specs.Causes.{bare}
-use Rattle.ray_tracing.specs.Plan.{buildingOf}
-use Rattle.report_text.proofs.Laws.{put-then, put-same-length}
-use Rattle.report.proofs.Lengths.{build-most}
-use Rattle.report.proofs.Laws.{count-is}
+use mathlib.Core.Bool.{Bool, true, false, cond}
+use mathlib.Core.Path.{refl, sym, _∙_}
+use mathlib.Core.List.{List, [], append-nil}
+use lib.ListN.{length}
+use Rattle.ray_tracing.specs.Causes.{cause}
+use Rattle.report_plan.specs.Lines.{planLines, longestPlan}
+use Rattle.report_text.proofs.Laws.{put-then, put-same-length, count-is}
+use Rattle.report_plan.proofs.Laws.{build-most, plan-most}
+use Rattle.report.proofs.Answers.{never}
 use borrow.Author.Needs.{needs}
 use Rattle.report.proofs.put_answer.Statement.{statement}
 use Rattle.report.proofs.put_answer.Tie as tie
 
-put-submission-requires : tie.Need-put-submission-requires
-put-submission-requires c κs =
-    let build = c .before .before .before .before .put-build-line2 .ensures in
-    (c .before .before .before .before .before .before .before .before .before .before .before .before .before .before .before .before .before .before .pre .0 .0, omega (arith, c .before .before .before .before .before .before .before .before .before .before .before .before .before .before .before .before .before .before .pre .0 .1, put-same-length build, build .ends, build-most 0 0 (bare 0)))
-
-slice-aggregate-put-submission-2 : tie.Need-slice-aggregate-put-submission-2
-slice-aggregate-put-submission-2 c = count-is _ _ (c .before .before .before .before .before .before .before .before .before .before .before .before .before .before .before .before .before .before .pre .1 .1 _ _ (ap buildingOf (c .before .before .before .before .before .before .built2 .given .1)))
+-- what is there or not is as short as it is
+either-most : (r : Bool) (l : List ℕ) (n : ℕ) → length l ≤ n → length (cond r l []) ≤ n
+either-most true l n h = h
+either-most false l n h = omega arith
 
 returns : tie.Need-returns
-returns c =
-    let put = c .before .before in
-    let figures = put .before .before in
-    let case = figures .before .before in
-    (rw (case .built .given .1, ← figures .build-figures .ensures) (put .put-build-line .ensures), rw (case .built .given .1))
+returns c = (
+  rw (c .if1 .taken, append-nil) (c .before .before .before .put-build-line .ensures),
+  record { built = λ e. refl; submitted = λ e. absurd (never (sym (c .if1 .taken) ∙ e)) },
+)
+
+put-plan-requires : tie.Need-put-plan-requires
+put-plan-requires c κs =
+    let start = c .before .before .before .before .before .before .before .before .before .before .before .before .before .before .before .before in
+    let build = c .before .before .before .before .put-build-line .ensures in
+    let few = start .pre .0 in
+    let v = start .args .refusal in (
+      (few .few-entries, few .few-packages),
+      (omega (arith, start .pre, few .few-entries), (omega (arith, start .pre, few .few-packages), (omega (arith, start .pre, few .few-packages), omega (arith, start .pre, put-same-length build, build .ends, build-most (v .e) (v .f) (cause (v .number) (v .x) (v .y) (v .z)))))),
+    )
+
+slice-aggregate-put-submission : tie.Need-slice-aggregate-put-submission
+slice-aggregate-put-submission c = count-is _ _ (search needs)
+
+put-submission-requires : tie.Need-put-submission-requires
+put-submission-requires c κs =
+    let start = c .before .before .before .before .before .before .before .before .before .before .before .before .before .before .before .before .before .before .before .before .before in
+    let a = start .args in
+    let v = a .refusal in
+    let build = c .before .before .before .before .before .before .before .before .before .put-build-line .ensures in
+    let plan = c .before .before .before .before .put-plan .ensures in
+    let few = start .pre .0 in
+    let most =
+    either-most (a .came .recorded)
+    (planLines (a .came .size) (a .entries .now) (a .packages .now) (a .blas-offsets .now) (a .tlas-offsets .now) (a .staging-ranges .now))
+    longestPlan
+    (plan-most (a .came .size) (a .entries .now) (a .packages .now) (a .blas-offsets .now) (a .tlas-offsets .now) (a .staging-ranges .now) (few .few-entries) (few .few-packages)) in (
+      few,
+      omega (
+        arith,
+        start .pre,
+        put-same-length build,
+        build .ends,
+        build-most (v .e) (v .f) (cause (v .number) (v .x) (v .y) (v .z)),
+        put-same-length plan,
+        plan .ends,
+        most,
+      ),
+    )
 
 returns-2 : tie.Need-returns-2
 returns-2 c =
-    let submitted = c .before .before in
-    let put = submitted .before .before .before .before .before in
-    let case = put .before .before in
-    (rw (case .enum-told .given .1) (put-then (put .put-build-line2 .ensures) (submitted .put-submission .ensures .0)), rw (case .enum-told .given .1) (submitted .put-submission .ensures .1))
-
-returns-3 : tie.Need-returns-3
-returns-3 c =
-    let submitted = c .before .before in
-    let put = submitted .before .before .before .before .before in
-    let case = put .before .before .before in
-    (rw (case .built2 .given .1) (put-then (put .put-plan .ensures .0) (submitted .put-submission2 .ensures .0)), rw (case .built2 .given .1) (submitted .put-submission2 .ensures .1))
+    let submitted = c .before .before .put-submission .ensures in
+    let test = c .before .before .before .before .before .before .before .before .before in (
+      rw (test .if1 .left) (put-then (c .before .before .before .before .before .before .before .before .before .before .before .before .put-build-line .ensures) (put-then (c .before .before .before .before .before .before .before .put-plan .ensures) (submitted .0))),
+      record { built = λ e. absurd (never (sym e ∙ test .if1 .left)); submitted = λ e. submitted .1 },
+    )
 
 pub put-answer-spec : {M : Type 1} → statement M
-put-answer-spec =
-    tie.close
-    (tie.spec
-    (λ c. search needs)
-    (λ c κs. search needs)
-    (λ c κs. search needs)
-    (λ c. search needs)
-    (λ c κs. search needs)
-    (λ c. search needs)
-    put-submission-requires
-    (λ c. search needs)
-    (λ c κs. search needs)
-    slice-aggregate-put-submission-2
-    (λ c κs. search needs)
-    (λ c. search needs)
-    returns
-    (λ c. search needs)
-    returns-2
-    (λ c. search needs)
-    returns-3)
+put-answer-spec = tie.close (tie.spec (λ c κs. search needs) (λ c. search needs) returns put-plan-requires slice-aggregate-put-submission put-submission-requires (λ c. search needs) returns-2)

@@ -22,10 +22,9 @@ returns-2 : tie.Need-returns-2
 unfolding report refusalIn
 returns-2 c =
     let put = c .before .before in
-    let number = put .before .before .before .before in
-    let case = number .before .before in
+    let case = put .before .before .before in
     let read = case .before .before in
-    (rw (← read .read-sheet .ensures, case .e .given .1, ← number .sheet-number .ensures) (put .put-line .ensures), rw (← read .read-sheet .ensures, case .e .given .1))
+    (rw (← read .read-sheet .ensures, case .e .given .1) (put .put-refused .ensures .0), rw (← read .read-sheet .ensures, case .e .given .1) (put .put-refused .ensures .1))
 
 pub put-report-spec : {M : Type 1} → statement M
 put-report-spec =
@@ -34,9 +33,6 @@ put-report-spec =
     (λ c κs. search needs)
     (λ c. search needs)
     put-accepted-requires
-    (λ c. search needs)
-    (λ c κs. search needs)
-    (λ c. search needs)
     (λ c. search needs)
     (λ c κs. search needs)
     (λ c. search needs)
