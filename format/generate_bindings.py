@@ -243,6 +243,8 @@ def rust_layout():
         yield f"        most: MOST_{s.name.upper()},"
         yield f"        bytes: {s.one.upper()}_BYTES,"
         yield f"        drawn_by: {s.drawn_by},"
+        draws = [i for i, (f, _, _) in enumerate(single(s.fields)) if f.draws]
+        yield f"        draws: {f'Some({draws[0]})' if draws else 'None'},"
         yield f"        kind: KindOf::{s.kind.capitalize() or 'Triangles'},"
         fields = [
             f'field("{name}", {at}, {f.width}, {rust_allowed(f)}, {rust_used(s, f)}, {f.id_of}, {str(f.none).lower()})'

@@ -18,6 +18,8 @@ pub struct Section {
     pub bytes: usize,
     /// the section whose records draw this one's, or 0
     pub drawn_by: usize,
+    /// the field that counts the records that one draws in turn, by its place in the list
+    pub draws: Option<usize>,
     /// where a record's kind is
     pub kind: KindOf,
     /// in their order

@@ -55,6 +55,7 @@ pub static SECTIONS: [Section; 9] = [
         most: MOST_BUFFERS,
         bytes: BUFFER_BYTES,
         drawn_by: 0,
+        draws: None,
         kind: KindOf::Triangles,
         fields: &[field("size", 0, 8, Any, &[], 0, false), field("marks", 8, 1, Range(0, 3), &[], 0, false)],
     },
@@ -66,6 +67,7 @@ pub static SECTIONS: [Section; 9] = [
         most: MOST_BLASES,
         bytes: BLAS_BYTES,
         drawn_by: 0,
+        draws: None,
         kind: KindOf::Triangles,
         fields: &[
             field("kind", 0, 1, Range(0, 1), &[], 0, false),
@@ -85,6 +87,7 @@ pub static SECTIONS: [Section; 9] = [
         most: MOST_DECLARED,
         bytes: DECLARED_BYTES,
         drawn_by: 0,
+        draws: None,
         kind: KindOf::Blas,
         fields: &[
             field("blas", 0, 2, Inside(2), &[], 2, false),
@@ -106,6 +109,7 @@ pub static SECTIONS: [Section; 9] = [
         most: MOST_TLASES,
         bytes: TLAS_BYTES,
         drawn_by: 0,
+        draws: None,
         kind: KindOf::Triangles,
         fields: &[
             field("flags", 0, 1, OneOf(&[0, 2]), &[], 0, false),
@@ -123,6 +127,7 @@ pub static SECTIONS: [Section; 9] = [
         most: MOST_ENTRIES,
         bytes: ENTRY_BYTES,
         drawn_by: 0,
+        draws: Some(2),
         kind: KindOf::Triangles,
         fields: &[
             field("blas", 0, 2, Any, &[], 2, false),
@@ -138,6 +143,7 @@ pub static SECTIONS: [Section; 9] = [
         most: MOST_GEOMETRIES,
         bytes: GEOMETRY_BYTES,
         drawn_by: 5,
+        draws: None,
         kind: KindOf::Entry,
         fields: &[
             field("flags", 0, 1, Any, &[], 0, false),
@@ -165,6 +171,7 @@ pub static SECTIONS: [Section; 9] = [
         most: MOST_PACKAGES,
         bytes: PACKAGE_BYTES,
         drawn_by: 0,
+        draws: Some(1),
         kind: KindOf::Triangles,
         fields: &[field("tlas", 0, 2, Any, &[], 4, false), field("slot_count", 2, 2, Any, &[], 0, false)],
     },
@@ -176,6 +183,7 @@ pub static SECTIONS: [Section; 9] = [
         most: MOST_SLOTS,
         bytes: SLOT_BYTES,
         drawn_by: 7,
+        draws: None,
         kind: KindOf::Triangles,
         fields: &[
             field("present", 0, 1, Range(0, 1), &[], 0, false),
@@ -204,6 +212,7 @@ pub static SECTIONS: [Section; 9] = [
         most: MOST_ACTIONS,
         bytes: ACTION_BYTES,
         drawn_by: 0,
+        draws: None,
         kind: KindOf::Triangles,
         fields: &[field("kind", 0, 1, Range(1, 4), &[], 0, false), field("operand", 1, 2, Any, &[Not(0, 1)], 0, false)],
     },

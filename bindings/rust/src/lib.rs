@@ -38,6 +38,7 @@ mod building;
 mod format;
 mod layout;
 mod misfit;
+mod naming;
 pub mod raw;
 mod records;
 mod sheet;

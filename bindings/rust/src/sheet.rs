@@ -2,7 +2,8 @@
 use crate::building::Tables;
 use crate::format::section;
 use crate::layout::SECTIONS;
-use crate::misfit::{Misfit, Walk};
+use crate::misfit::Misfit;
+use crate::naming::Walk;
 use crate::raw;
 use crate::words::{self, Call};
 use std::fmt;
