@@ -10,7 +10,8 @@
  * ZAKVIND_NONE(uint8_t) is one to no elements, and ZAKVIND_LENT(uint8_t, p) is p, or that where p is null.
  *
  * Threads: the library has no data of its own, so calls in any number of threads do not disturb each other, as long as
- * nothing that one call may write is lent to another at the same time. It allocates nothing and calls only memcpy and memset.
+ * nothing that one call may write is lent to another at the same time. It allocates nothing and calls nothing but memcpy,
+ * memmove, memset and memcmp.
  * Stack: zakvind_report and zakvind_explain use at most ZAKVIND_TEXT_STACK_BYTES, every other call ZAKVIND_STACK_BYTES. These are
  * bounds on what was measured on x86-64 with the largest tables and sheet (bindings/c/edges.c), nothing proves them.
  *
@@ -78,8 +79,8 @@ enum {
     ZAKVIND_LONGEST_REPORT = 6134,     /* bytes of zakvind_report */
     ZAKVIND_LONGEST_EXPLAINED = 6381,  /* bytes of zakvind_explain */
     ZAKVIND_LONGEST_WORDS = 247,       /* bytes of zakvind_words */
-    ZAKVIND_STACK_BYTES = 8192,        /* of every call but the next two */
-    ZAKVIND_TEXT_STACK_BYTES = 131072  /* of zakvind_report and zakvind_explain */
+    ZAKVIND_TEXT_STACK_BYTES = 131072, /* of zakvind_report and zakvind_explain */
+    ZAKVIND_STACK_BYTES = 8192         /* of every other call */
 };
 
 /* A pointer to no elements, for a length of 0; and a pointer that may be null where its length is 0. */
@@ -176,8 +177,10 @@ static inline zakvind_room zakvind_room_for(
     (void)packages;
     for (size_t i = 0; i < entry_count; i++) {
         const zakvind_entry e = zakvind_unpack_entry(entries + i * ZAKVIND_ENTRY_BYTES);
-        if (e.blas < blas_count && (zakvind_unpack_blas(blases + (size_t)e.blas * ZAKVIND_BLAS_BYTES).flags & ZAKVIND_FLAGS_ALLOW_COMPACTION))
-            compactable++;
+        if (e.blas < blas_count) {
+            const zakvind_blas b = zakvind_unpack_blas(blases + (size_t)e.blas * ZAKVIND_BLAS_BYTES);
+            compactable += (size_t)((b.flags & ZAKVIND_FLAGS_ALLOW_COMPACTION) != 0);
+        }
         for (size_t j = 0; j < e.geometry_count && next < geometry_count; j++, next++) {
             const zakvind_geometry g = zakvind_unpack_geometry(geometries + next * ZAKVIND_GEOMETRY_BYTES);
             ranges++;
