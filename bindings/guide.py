@@ -7,7 +7,7 @@ import sys
 GUIDE = pathlib.Path(__file__).resolve().parent.parent / "docs" / "GUIDE.md"
 AROUND = {
     "rust": ("use zakvind::*;\n\nfn main() -> Result<(), Box<dyn std::error::Error>> {\n", "Ok(())\n}\n"),
-    "c": ("#include <zakvind.h>\n\n#include <assert.h>\n#include <inttypes.h>\n#include <stdio.h>\n\nint main(void)\n{\n", "return 0;\n}\n"),
+    "c": ("#include <zakvind.h>\n\n#include <assert.h>\n#include <stdio.h>\n\nint main(void)\n{\n", "return 0;\n}\n"),
 }
 
 

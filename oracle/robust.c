@@ -157,10 +157,9 @@ static void *take(input *in, size_t *n, size_t size, int cut)
     return p;
 }
 
-/* The words of an answer, with room for them and with a byte less. An archive from before they were exported has none. */
+/* The words of an answer, with room for them and with a byte less. */
 static void speak(uint64_t call, uint64_t answer, uint64_t e0, uint64_t e1, uint64_t f0, uint64_t f1, uint64_t f2)
 {
-#ifndef WITHOUT_WORDS
     const int k = count;
     uint8_t *out = lend(ZAKVIND_LONGEST_WORDS, NULL, 0, 1);
     zakvind_reported t = zakvind_words(call, answer, e0, e1, f0, f1, f2, out, ZAKVIND_LONGEST_WORDS);
@@ -172,9 +171,6 @@ static void speak(uint64_t call, uint64_t answer, uint64_t e0, uint64_t e1, uint
     t = zakvind_words(call, answer, e0, e1, f0, f1, f2, less, t.written - 1);
     must(t.number == 39 && t.written == 0, "words that don't fit");
     kept(k + 1, 0, "words that don't fit are not written");
-#else
-    (void)call, (void)answer, (void)e0, (void)e1, (void)f0, (void)f1, (void)f2;
-#endif
 }
 
 static void call_sheet(input *in)
@@ -193,7 +189,6 @@ static void call_sheet(input *in)
     seen(1, t.written);
     must(t.written == 0 || out[t.written - 1] == '\n', "a text ends with its line");
     must(t.number == 39 || (r.number != 0) == (out[0] == 's'), "reader and report agree");
-#ifndef WITHOUT_WORDS
     uint8_t *words = lend(room, NULL, 0, 1);
     zakvind_reported w = zakvind_explain(sheet, n, words, room);
     given(6, (const uint64_t *)&w, 2);
@@ -201,7 +196,6 @@ static void call_sheet(input *in)
     kept(2, w.written, "what is past the explanation is kept");
     seen(2, w.written);
     must(w.number == 39 || (w.written > t.written && memcmp(words, out, t.written) == 0), "an explanation begins as its report");
-#endif
     speak(1, r.number, r.place, 0, 0, 0, 0);
 }
 
@@ -282,9 +276,7 @@ static void call_append(input *in)
     speak(4, r.number, r.e0, r.e1, r.f0, r.f1, r.f2);
     if (r.number) {
         kept(3, 0, "a refusal writes nothing");
-#ifndef WITHOUT_WORDS
         must(r.used == used, "a refusal hands back the bytes in use as they were");
-#endif
         return;
     }
     must(r.used == used + 64 && r.used <= room, "64 bytes are appended");

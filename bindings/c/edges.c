@@ -223,12 +223,8 @@ static void refused_append(void)
         const zakvind_appended a =
             zakvind_append_instance(tlases, sizeof tlases, blases, sizeof blases, 0, fields, out, sizeof out, used);
         must(a.number == (i == 2 ? ZAKVIND_TLAS_INVALID_CUSTOM_INDEX : i == 5 ? ZAKVIND_OUTPUT_TOO_SHORT : 0), "an append");
-#ifndef WITHOUT_WORDS
         must(a.used == used + (i == 2 || i == 5 ? 0 : ZAKVIND_INSTANCE_BYTES), "the bytes in use after an append");
         used = a.used;
-#else
-        used += i == 2 || i == 5 ? 0 : ZAKVIND_INSTANCE_BYTES;
-#endif
     }
     must(used == sizeof out, "all instances stand one after the other");
 }
@@ -238,7 +234,6 @@ static void refused_append(void)
 static uint8_t text[ZAKVIND_LONGEST_EXPLAINED];
 static zakvind_reported told;
 
-#ifndef WITHOUT_WORDS
 static void words(void)
 {
     const char expected[] = "refused 23: region overruns buffer, entry 0, geometry 0, offset 0, region 960, size 959\n";
@@ -256,7 +251,6 @@ static void words(void)
                 must(zakvind_words(call, number, top, top, e, top, top, text, ZAKVIND_LONGEST_WORDS).number == 0, "the longest words");
             }
 }
-#endif
 
 /* ---- the stack: each call on one that was painted */
 
@@ -282,10 +276,8 @@ static void appends(void)
          "an instance");
 }
 
-#ifndef WITHOUT_WORDS
 static void explains(void) { told = zakvind_explain(sheet, sizeof sheet, text, sizeof text); }
 static void speaks(void) { told = zakvind_words(ZAKVIND_CALL_BUILD, 26, 1, 2, 3, 4, 5, text, sizeof text); }
-#endif
 static void rests(void) {}
 
 static void *run(void *call)
@@ -322,10 +314,8 @@ static void stacks(void)
         {"submit", submits, ZAKVIND_STACK_BYTES},
         {"append_instance", appends, ZAKVIND_STACK_BYTES},
         {"report", reports, ZAKVIND_TEXT_STACK_BYTES},
-#ifndef WITHOUT_WORDS
         {"explain", explains, ZAKVIND_TEXT_STACK_BYTES},
         {"words", speaks, ZAKVIND_STACK_BYTES},
-#endif
     };
     const size_t thread = stack_of(rests);
     printf("C: stack in bytes:");
@@ -347,9 +337,7 @@ int main(void)
     room_fits();
     nothing();
     refused_append();
-#ifndef WITHOUT_WORDS
     words();
-#endif
     stacks();
     puts("C: records, room, empty tables, appends and stack are as is said");
     return 0;

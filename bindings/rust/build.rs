@@ -1,7 +1,7 @@
 //! Finds the static library: in `ZAKVIND_LIB_DIR`, beside this package, in the `lib` folder of the prefix that it is installed in,
 //! or where the repository's `rt staticlib` puts it.
+use std::env;
 use std::path::{Path, PathBuf};
-use std::{env, fs};
 
 const NAMES: [&str; 2] = ["zakvind", "capi"];
 
@@ -11,7 +11,6 @@ fn archive(folder: &Path) -> Option<(PathBuf, &'static str)> {
 
 fn main() {
     println!("cargo::rerun-if-env-changed=ZAKVIND_LIB_DIR");
-    println!("cargo::rustc-check-cfg=cfg(without_words)");
     let here = PathBuf::from(env::var_os("CARGO_MANIFEST_DIR").unwrap_or_default());
     let folders = match env::var_os("ZAKVIND_LIB_DIR") {
         Some(folder) => vec![PathBuf::from(folder)],
@@ -26,9 +25,4 @@ fn main() {
     println!("cargo::rerun-if-changed={}", file.display());
     println!("cargo::rustc-link-search=native={}", file.parent().unwrap_or(&here).display());
     println!("cargo::rustc-link-lib=static={name}");
-    // an archive from before the words were exported
-    let bytes = fs::read(&file).unwrap_or_default();
-    if !bytes.windows(13).any(|w| w == b"zakvind_words") {
-        println!("cargo::rustc-cfg=without_words");
-    }
 }

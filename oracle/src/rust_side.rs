@@ -7,7 +7,7 @@ use published::input::{Input, Package};
 
 use crate::layout::SIZES;
 use crate::paper;
-use crate::side::{kept, Lent, Outputs, Side};
+use crate::side::{Lent, Outputs, Side};
 
 /// Numbers given, by call and mark; and how much else was compared, by what it is and mark.
 #[derive(Default, Clone)]
@@ -503,7 +503,7 @@ impl Side for RustSide {
             }
             Err((number, mark)) => {
                 self.tally.answer("append", number, mark);
-                [number, 0, 0, 0, 0, 0, kept(used)]
+                [number, 0, 0, 0, 0, 0, used]
             }
         }
     }

@@ -19,15 +19,6 @@ pub struct Lent<'a> {
     pub dependencies: &'a mut [u16],
 }
 
-/// The bytes in use that a refused append hands back: as before it. An archive from before words were exported says 0.
-pub fn kept(used: u64) -> u64 {
-    if cfg!(without_words) {
-        0
-    } else {
-        used
-    }
-}
-
 /// The five exported functions; each answer is its fields in order.
 pub trait Side {
     /// number, place, version, alignment, counter, then start and count of sections 1 to 9

@@ -58,9 +58,7 @@ pub use records::{
     BlasGeometrySizeDescriptor, BlasId, Buffer, BufferId, IDENTITY, IndexFormat, Kind, Reader, Record, Tlas, TlasId, TlasInstance,
     TlasPackage, USE_TRANSFORM, table,
 };
-#[cfg(not(without_words))]
-pub use sheet::explain;
-pub use sheet::{OutputTooShort, Sheet, SheetError, SheetRefused, read_sheet, report};
+pub use sheet::{OutputTooShort, Sheet, SheetError, SheetRefused, explain, read_sheet, report};
 pub use submission::{
     Actions, DEPENDENCY_ROOM, Lent, SubmitRefused, ValidateAsActionsError, validate_acceleration_structure_actions,
 };

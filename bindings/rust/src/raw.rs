@@ -157,9 +157,7 @@ mod ffi {
             used: u64,
         ) -> Appended;
         pub fn zakvind_report(sheet: *const u8, sheet_len: usize, out: *mut u8, out_len: usize) -> Reported;
-        #[cfg(not(without_words))]
         pub fn zakvind_explain(sheet: *const u8, sheet_len: usize, out: *mut u8, out_len: usize) -> Reported;
-        #[cfg(not(without_words))]
         pub fn zakvind_words(
             call: u64,
             number: u64,
@@ -266,13 +264,11 @@ pub fn report(sheet: &[u8], out: &mut [u8]) -> Reported {
 }
 
 /// `zakvind_explain`.
-#[cfg(not(without_words))]
 pub fn explain(sheet: &[u8], out: &mut [u8]) -> Reported {
     unsafe { ffi::zakvind_explain(sheet.as_ptr(), sheet.len(), out.as_mut_ptr(), out.len()) }
 }
 
 /// `zakvind_words`.
-#[cfg(not(without_words))]
 pub fn words(call: u64, number: u64, e: [u64; 2], figures: [u64; 3], out: &mut [u8]) -> Reported {
     let ([e0, e1], [f0, f1, f2]) = (e, figures);
     unsafe { ffi::zakvind_words(call, number, e0, e1, f0, f1, f2, out.as_mut_ptr(), out.len()) }

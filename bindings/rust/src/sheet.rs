@@ -141,7 +141,6 @@ pub fn report(sheet: &[u8], out: &mut [u8]) -> Result<usize, OutputTooShort> {
 }
 
 /// The lines that the sheet program prints, and what they refuse in words: how many bytes of them there are, at most 6381.
-#[cfg(not(without_words))]
 pub fn explain(sheet: &[u8], out: &mut [u8]) -> Result<usize, OutputTooShort> {
     told(raw::explain(sheet, out))
 }

@@ -11,7 +11,6 @@ pub(crate) enum Call {
 }
 
 impl Call {
-    #[cfg(not(without_words))]
     fn number(self) -> u64 {
         match self {
             Call::Sheet => 1,
@@ -23,11 +22,9 @@ impl Call {
 }
 
 /// Bytes of the longest line of words.
-#[cfg(not(without_words))]
 const LONGEST: usize = 247;
 
 /// The words of a refusal, without the line's end.
-#[cfg(not(without_words))]
 pub(crate) fn write(f: &mut fmt::Formatter, call: Call, number: u64, e: [u64; 2], figures: [u64; 3]) -> fmt::Result {
     let mut out = [0; LONGEST];
     let told = crate::raw::words(call.number(), number, e, figures, &mut out);
@@ -36,10 +33,4 @@ pub(crate) fn write(f: &mut fmt::Formatter, call: Call, number: u64, e: [u64; 2]
         Some(text) if told.number == 0 => f.write_str(text.trim_end_matches('\n')),
         _ => write!(f, "refused {number}"),
     }
-}
-
-/// The words of a refusal in an archive that has none: its numbers.
-#[cfg(without_words)]
-pub(crate) fn write(f: &mut fmt::Formatter, _: Call, number: u64, e: [u64; 2], figures: [u64; 3]) -> fmt::Result {
-    write!(f, "refused {number}, {e:?}, {figures:?}")
 }

@@ -441,7 +441,6 @@ fn whatever_is_refused_is_named_and_nothing_panics() {
 }
 
 #[test]
-#[cfg(not(without_words))]
 fn errors_speak_the_librarys_words() {
     fn is_error<E: std::error::Error + Send + Sync + 'static>(_: &E) {}
     let sheet = fs::read(shipped("refused-build.sheet")).unwrap();

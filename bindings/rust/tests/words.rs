@@ -1,5 +1,4 @@
 //! The library's words against a second reading of the paper's table.
-#![cfg(not(without_words))]
 
 #[path = "../../../oracle/src/words.rs"]
 mod words;
