@@ -15,12 +15,11 @@ use Rattle.ray_tracing.specs.Submission.{
   outcomeOf,
   counterOf,
   answerOf,
-  Shown,
   shown,
   Buffers,
 }
 use Rattle.submit_checks.specs.Outcome.{checkedCause, submittedOf}
-use Rattle.submit.specs.Told.{numbersIn}
+use Rattle.submit.specs.Told.{numbersIn, shownIn}
 use Rattle.submit.specs.declared.Numbered.{Numbered}
 use Rattle.submit_checks.specs.declared.Checked.{Checked}
 use Rattle.submit_checks.specs.declared.Checked.the-variants.{Refused}
@@ -36,7 +35,9 @@ unfolding submission
 submission-runs l acts p q = rw p q
 
 pub told-is :
-    (x : Submitted) (v : Numbered) (y : Buffers) {o : Outcome} → numbersIn v ≡ answerNumbers (answerOf x) → v .counter ≡ counterOf x
+    (x : Submitted) (v : Numbered) (y : Buffers) {o : Outcome}
+    → numbersIn v ≡ answerNumbers (answerOf x)
+    → v .counter ≡ counterOf x
     → outcomeOf x (y .blases) (y .tlases) (y .dependencyCounts) (y .dependencies) ≡ o
-    → _≡_ {A = Shown} (record { numbers = numbersIn v; counter = v .counter; left = y }) (shown o)
+    → shownIn v y ≡ shown o
 told-is x v y p q e = (λ i. record { numbers = p i; counter = q i; left = y }) ∙ ap shown e

@@ -7,8 +7,9 @@ use Rattle.submit.specs.declared.Numbered.{Numbered}
 abbrev pub numbersIn : Numbered → Numbers
 numbersIn v = record { number = v .number; action = v .action; first = v .first; second = v .second }
 
+abbrev pub shownIn : Numbered → Buffers → Shown
+shownIn v y = record { numbers = numbersIn v; counter = v .counter; left = y }
+
 -- a call of `submit_numbers`: lent the counter n, the buffers x and the piece p, it told v and left y
 abbrev pub Tells : ℕ → Buffers → Piece → Numbered → Buffers → Type 0
-Tells n x p v y =
-    _≡_ {A = Shown} (record { numbers = numbersIn v; counter = v .counter; left = y })
-    (shown (submission (lentWith n x) (decode p)))
+Tells n x p v y = shownIn v y ≡ shown (submission (lentWith n x) (decode p))

@@ -43,7 +43,7 @@ returns-4 : tie.Need-returns-4
 returns-4 c =
     let a = c .before .before .before .before .before .before .before .before .before .before .before .before .before .before .before .before .before .before .before .before .before .before .before .before .before .before .args in
     let i = is-id (a .cells .kind) (a .cells .operand) (nothing (c .before .before .before .before .before .before .before .before .before .before .before .before .before .before .before .before .before .before .before .judge-operand .ensures) (c .before .before .before .before .before .before .before .before .before .before .before .before .before .before .before .before .before .enum-told2 .given .1)) in
-    rw (mark-build (a .lists .now) (a .cells .kind) (a .cells .operand) (a .cells .«blas_count») (a .cells .«tlas_count») i (c .before .before .before .before .before .before .before .before .before .before .before .before .before .before .before .before .before .before .before .before .if1 .left) (c .before .before .before .before .before .before .before .before .before .before .before .before .before .before .before .before .if2 .left) (c .before .before .before .before .before .before .before .before .before .before .before .before .before .before .before .pick .ensures) (c .before .before .before .before .before .before .before .before .before .before .before .before .before .before .pick2 .ensures)) at
+    rw (← mark-build (a .lists .now) (a .cells .kind) (a .cells .operand) (a .cells .«blas_count») (a .cells .«tlas_count») i (c .before .before .before .before .before .before .before .before .before .before .before .before .before .before .before .before .before .before .before .before .if1 .left) (c .before .before .before .before .before .before .before .before .before .before .before .before .before .before .before .before .if2 .left) (c .before .before .before .before .before .before .before .before .before .before .before .before .before .before .before .pick .ensures) (c .before .before .before .before .before .before .before .before .before .before .before .before .before .before .pick2 .ensures))
     (c .before .before .before .before .before .before .before .before .build-action2 .ensures)
 
 pub step-spec : {M : Type 1} → statement M
