@@ -8,7 +8,7 @@ use Rattle.capi.proofs.zakvind_append_instance.Tie as tie
 returns : tie.Need-returns
 returns c =
     let call = c .before .before .before in
-    let used = c .before .before .before .before .before .before .before .args .used in
+    let used = c .before .before .before .before .before .before .before .before .before .before .args .used in
     let appends = rw (c .before .before .before .before .before .instance-from .ensures) at (call .append-instance .ensures) in
     record { answer = c .append-answer .ensures ∙ ap (appendAnswer used) (appends .answer); left = appends .left }
 
