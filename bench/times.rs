@@ -251,8 +251,8 @@ impl Out {
         }
     }
 
-    fn lend(&mut self) -> zakvind::Outputs<'_> {
-        zakvind::Outputs {
+    fn lend(&mut self) -> zakvind::LentOutputs<'_> {
+        zakvind::LentOutputs {
             blas_offsets: &mut self.blas_offsets,
             tlas_offsets: &mut self.tlas_offsets,
             staging_ranges: &mut self.staging_ranges,

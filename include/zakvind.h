@@ -1,34 +1,27 @@
-/* Zakvind: checks, lays out and orders acceleration structure builds. The functions of target/staticlib/libcapi.a
- * (rt staticlib capi). Nothing else has to be linked.
+/* Zakvind: checks, lays out and orders acceleration structure builds. The functions of libzakvind.a (./install), which is
+ * target/staticlib/libcapi.a (rt staticlib capi). Nothing else has to be linked. C99 or C++11.
  *
  * Every function accepts all bytes and numbers, finishes, and refuses by a number what it won't have; 0 is accepted. A
  * refused call writes no lent byte, except that a refused submission leaves what its earlier actions did, and for 42 in a
  * Build its counter step, Blases and earlier Tlases.
  *
  * The caller owes: each pointer is not null, aligned, and valid for its length, which is in elements; what a call may write
- * overlaps nothing else that is lent to it. A length may be 0.
+ * overlaps nothing else that is lent to it. A length may be 0, but nothing promises that the pointer beside it may then be null:
+ * ZAKVIND_NONE(uint8_t) is one to no elements, and ZAKVIND_LENT(uint8_t, p) is p, or that where p is null.
  *
- * Tables are records end to end, little-endian, with the layout of the sheet's sections:
- *   buffers     9 bytes   size u64, marks u8 (1 BLAS_INPUT, 2 destroyed)
- *   blases     28         kind u8 (0 triangles, 1 boxes), flags u8 (1 USE_TRANSFORM, 2 ALLOW_RAY_HIT_VERTEX_RETURN,
- *                         4 ALLOW_COMPACTION), state u8 (0 Idle, 1 Waiting, 2 Ready, 3 Compacted), destroyed u8,
- *                         scratch u64, address u64, number u64 (0 none)
- *   declared   18         Blas u16, flags u8, vertex or box count u32, vertex format u8, least stride u16, stride alignment
- *                         u16, index format u8 (0 none, 1 two-byte, 2 four-byte), present u8, index count u32
- *   tlases     22         flags u8 (0 or 2), destroyed u8, scratch u64, most instances u32, number u64 (0 none)
- *   entries     5         Blas u16, kind u8, geometry count u16
- *   geometries 44         flags u8, count u32, first vertex or primitive offset u32, stride u64, buffer u16, vertex format u8,
- *                         index format u8, index buffer u16 (65535 none), present u8, index count u32, present u8, first
- *                         index u32, transform buffer u16 (65535 none), present u8, transform offset u64
- *   packages    4         Tlas u16, slot count u16
- *   slots      56         present u8, Blas u16, custom data u32, mask u8, twelve f32
- *   actions     3         kind u8, operand u16 (only in sheets)
+ * Threads: the library has no data of its own, so calls in any number of threads do not disturb each other, as long as
+ * nothing that one call may write is lent to another at the same time. It allocates nothing and calls nothing but memcpy,
+ * memmove, memset and memcmp.
+ * Stack: zakvind_report and zakvind_explain use at most ZAKVIND_TEXT_STACK_BYTES, every other call ZAKVIND_STACK_BYTES. These are
+ * bounds on what was measured on x86-64 with the largest tables and sheet (bindings/c/edges.c), nothing proves them.
+ *
+ * Tables are records end to end, little-endian, with the layout of the sheet's sections. zakvind_records.h packs and unpacks
+ * each record, and has the bytes of one and the most of each.
  */
 #ifndef ZAKVIND_H
 #define ZAKVIND_H
 
-#include <stddef.h>
-#include <stdint.h>
+#include "zakvind_records.h"
 
 #ifdef __cplusplus
 extern "C" {
@@ -80,7 +73,24 @@ enum {
     ZAKVIND_BLAS_NEWER_THAN_TLAS = 44                     /* Blas, Tlas */
 };
 
-enum { ZAKVIND_NO_BUFFER = 65535, ZAKVIND_TLAS_ROOM = 512, ZAKVIND_INSTANCE_BYTES = 64, ZAKVIND_LONGEST_SHEET = 56415 };
+enum {
+    ZAKVIND_TLAS_ROOM = 512,           /* cells of a Tlas's list in a submission */
+    ZAKVIND_INSTANCE_BYTES = 64,       /* that a present slot comes to */
+    ZAKVIND_LONGEST_REPORT = 6134,     /* bytes of zakvind_report */
+    ZAKVIND_LONGEST_EXPLAINED = 6381,  /* bytes of zakvind_explain */
+    ZAKVIND_LONGEST_WORDS = 247,       /* bytes of zakvind_words */
+    ZAKVIND_TEXT_STACK_BYTES = 131072, /* of zakvind_report and zakvind_explain */
+    ZAKVIND_STACK_BYTES = 8192         /* of every other call */
+};
+
+/* A pointer to no elements, for a length of 0; and a pointer that may be null where its length is 0. */
+static inline void *zakvind_none(void)
+{
+    static uint64_t none;
+    return &none;
+}
+#define ZAKVIND_NONE(type) ((type *)zakvind_none())
+#define ZAKVIND_LENT(type, pointer) ((pointer) ? (pointer) : ZAKVIND_NONE(type))
 
 /* Kinds of action. */
 enum { ZAKVIND_BUILD = 1, ZAKVIND_USE_TLAS = 2, ZAKVIND_MARK_BLAS = 3, ZAKVIND_MARK_TLAS = 4 };
@@ -121,7 +131,7 @@ typedef struct {
 typedef struct {
     uint64_t number;
     uint64_t e0, e1, f0, f1, f2;
-    uint64_t used; /* bytes in use now */
+    uint64_t used; /* bytes in use now; of a refused append as many as before */
 } zakvind_appended;
 
 typedef struct {
@@ -129,12 +139,74 @@ typedef struct {
     uint64_t written;
 } zakvind_reported;
 
-/* Reads a sheet: where its sections are, or the first refusal and its byte place (1 to 5). */
+/* The room that a build's outputs need, in elements. */
+typedef struct {
+    size_t blas_offsets, tlas_offsets, staging_ranges, instances, init_ranges, compactable, lists;
+} zakvind_room;
+
+/* The most that any build of so many records needs. */
+#define ZAKVIND_ROOM_BLAS_OFFSETS(entries) (entries)
+#define ZAKVIND_ROOM_TLAS_OFFSETS(packages) (packages)
+#define ZAKVIND_ROOM_STAGING_RANGES(packages) (2 * (packages))
+#define ZAKVIND_ROOM_INSTANCES(slots) (ZAKVIND_INSTANCE_BYTES * (slots))
+#define ZAKVIND_ROOM_INIT_RANGES(geometries) (9 * (geometries))
+#define ZAKVIND_ROOM_COMPACTABLE(entries) (entries)
+#define ZAKVIND_ROOM_LISTS(entries, packages, slots) ((entries) + 2 * (packages) + (slots))
+
+/* The room that a build of these tables needs: exactly what it writes if it is recorded. With nothing recorded it writes the
+ * init_ranges alone, as many; refused, nothing. So with this room no build is refused by 39, and with one element less of any
+ * output a recorded one is.
+ *   blas_offsets    one for each entry             tlas_offsets  one for each package
+ *   staging_ranges  two for each package           instances     64 for each present slot
+ *   init_ranges     three for each buffer that a geometry names: its data, and of triangles its indices and its transform
+ *   compactable     one for each entry whose Blas has ALLOW_COMPACTION
+ *   lists           one for each entry, two for each package, one for each present slot
+ * Where tables are refused by a build, the room is of no use, but reading them is in bounds. */
+static inline zakvind_room zakvind_room_for(
+    const uint8_t *blases, size_t blases_len,
+    const uint8_t *entries, size_t entries_len,
+    const uint8_t *geometries, size_t geometries_len,
+    const uint8_t *packages, size_t packages_len,
+    const uint8_t *slots, size_t slots_len)
+{
+    const size_t blas_count = blases_len / ZAKVIND_BLAS_BYTES, entry_count = entries_len / ZAKVIND_ENTRY_BYTES;
+    const size_t geometry_count = geometries_len / ZAKVIND_GEOMETRY_BYTES, slot_count = slots_len / ZAKVIND_SLOT_BYTES;
+    const size_t package_count = packages_len / ZAKVIND_PACKAGE_BYTES;
+    size_t ranges = 0, compactable = 0, present = 0, next = 0;
+    zakvind_room room;
+    (void)packages;
+    for (size_t i = 0; i < entry_count; i++) {
+        const zakvind_entry e = zakvind_unpack_entry(entries + i * ZAKVIND_ENTRY_BYTES);
+        if (e.blas < blas_count) {
+            const zakvind_blas b = zakvind_unpack_blas(blases + (size_t)e.blas * ZAKVIND_BLAS_BYTES);
+            compactable += (size_t)((b.flags & ZAKVIND_FLAGS_ALLOW_COMPACTION) != 0);
+        }
+        for (size_t j = 0; j < e.geometry_count && next < geometry_count; j++, next++) {
+            const zakvind_geometry g = zakvind_unpack_geometry(geometries + next * ZAKVIND_GEOMETRY_BYTES);
+            ranges++;
+            if (e.kind == ZAKVIND_KIND_TRIANGLES)
+                ranges += (size_t)(g.index_buffer != ZAKVIND_NO_BUFFER) + (size_t)(g.transform_buffer != ZAKVIND_NO_BUFFER);
+        }
+    }
+    for (size_t i = 0; i < slot_count; i++)
+        present += (size_t)(slots[i * ZAKVIND_SLOT_BYTES] != 0);
+    room.blas_offsets = entry_count;
+    room.tlas_offsets = package_count;
+    room.staging_ranges = 2 * package_count;
+    room.instances = ZAKVIND_INSTANCE_BYTES * present;
+    room.init_ranges = 3 * ranges;
+    room.compactable = compactable;
+    room.lists = entry_count + 2 * package_count + present;
+    return room;
+}
+
+/* Reads a sheet: where its sections are, or the first refusal and its byte place. Refuses by 1 to 5. */
 zakvind_sheet zakvind_read_sheet(const uint8_t *sheet, size_t sheet_len);
 
 /* Judges a build and writes its plan: an offset for each entry, one for each package, start and end of each package's
  * staging range, 64 bytes for each present slot, buffer, start and end of each initialisation range, the compactable Blases,
- * and the recorded action's lists, which zakvind_submit takes as (1, 0, entries, packages). */
+ * and the recorded action's lists, which zakvind_submit takes as (1, 0, entries, packages).
+ * Refuses by 4 to 6 and 10 to 39; by 39 with e and figures 0, see zakvind_room_for. */
 zakvind_built zakvind_build(
     uint32_t alignment,
     const uint8_t *buffers, size_t buffers_len,
@@ -155,7 +227,8 @@ zakvind_built zakvind_build(
 
 /* Submits actions on the lent tables. A Tlas t lists the first dependency_counts[t] of its 512 cells of dependencies. An
  * action is four cells: kind, operand, Blas count, Tlas count. A Build's operand is the first cell of its lists: its Blases,
- * then for each Tlas its id, how many Blases it lists, and these. Another kind's operand is the id. */
+ * then for each Tlas its id, how many Blases it lists, and these. Another kind's operand is the id.
+ * Refuses by 4 to 6, 21 and 39 to 44. */
 zakvind_submitted zakvind_submit(
     zakvind_command_indices *indices,
     uint8_t *blases, size_t blases_len,
@@ -165,7 +238,9 @@ zakvind_submitted zakvind_submit(
     const uint32_t *actions, size_t actions_len,
     const uint16_t *lists, size_t lists_len);
 
-/* Appends the 64 bytes of one instance (a slot's 55 bytes after its present byte) to those in use. */
+/* Appends the 64 bytes of one instance (a slot's 55 bytes after its present byte) to those in use. Refuses by 6, 34, 35 and 39,
+ * and then hands back `used` as it was. Not judged here: the tables (4, 5), and how many instances the Tlas may have (36); a
+ * build judges both. */
 zakvind_appended zakvind_append_instance(
     const uint8_t *tlases, size_t tlases_len,
     const uint8_t *blases, size_t blases_len,
@@ -174,8 +249,25 @@ zakvind_appended zakvind_append_instance(
     uint8_t *instances, size_t instances_len,
     uint64_t used);
 
-/* The lines that the sheet program prints. */
+/* The lines that the sheet program prints, what is refused among them. Refuses by 39, and then writes nothing; room for
+ * ZAKVIND_LONGEST_REPORT is always enough. */
 zakvind_reported zakvind_report(const uint8_t *sheet, size_t sheet_len, uint8_t *out, size_t out_len);
+
+/* These lines, and below them in words what they refuse. Refuses by 39, and then writes nothing; room for
+ * ZAKVIND_LONGEST_EXPLAINED is always enough. */
+zakvind_reported zakvind_explain(const uint8_t *sheet, size_t sheet_len, uint8_t *out, size_t out_len);
+
+/* A refusal of any call in words, a line with its newline: "refused 23: region overruns buffer, entry 0, geometry 0, offset 0,
+ * region 960, size 959"; number 0 gives "nothing is refused". What a call doesn't have is given as 0. Refuses by 39, and then
+ * writes nothing; room for ZAKVIND_LONGEST_WORDS is always enough. */
+enum {
+    ZAKVIND_CALL_SHEET = 1,      /* e0 is the place */
+    ZAKVIND_CALL_BUILD = 2,
+    ZAKVIND_CALL_SUBMISSION = 3, /* e0 is the action, e1 its kind, 0 where that is not known */
+    ZAKVIND_CALL_APPEND = 4
+};
+zakvind_reported zakvind_words(
+    uint64_t call, uint64_t number, uint64_t e0, uint64_t e1, uint64_t f0, uint64_t f1, uint64_t f2, uint8_t *out, size_t out_len);
 
 #ifdef __cplusplus
 }

@@ -10,7 +10,7 @@
 #include <string.h>
 #include <sys/mman.h>
 
-enum { AREAS = 16, AREA = 1 << 20, PAGE = 4096 };
+enum { AREAS = 18, AREA = 1 << 20, PAGE = 4096 };
 
 static void must(int holds, const char *what)
 {
@@ -157,6 +157,22 @@ static void *take(input *in, size_t *n, size_t size, int cut)
     return p;
 }
 
+/* The words of an answer, with room for them and with a byte less. */
+static void speak(uint64_t call, uint64_t answer, uint64_t e0, uint64_t e1, uint64_t f0, uint64_t f1, uint64_t f2)
+{
+    const int k = count;
+    uint8_t *out = lend(ZAKVIND_LONGEST_WORDS, NULL, 0, 1);
+    zakvind_reported t = zakvind_words(call, answer, e0, e1, f0, f1, f2, out, ZAKVIND_LONGEST_WORDS);
+    given(5, (const uint64_t *)&t, 2);
+    must(t.number == 0 && t.written > 0 && out[t.written - 1] == '\n', "words are a line");
+    kept(k, t.written, "what is past the words is kept");
+    seen(k, t.written);
+    uint8_t *less = lend(t.written - 1, NULL, 0, 1);
+    t = zakvind_words(call, answer, e0, e1, f0, f1, f2, less, t.written - 1);
+    must(t.number == 39 && t.written == 0, "words that don't fit");
+    kept(k + 1, 0, "words that don't fit are not written");
+}
+
 static void call_sheet(input *in)
 {
     size_t room = number(in, 2), n = in->left;
@@ -173,6 +189,14 @@ static void call_sheet(input *in)
     seen(1, t.written);
     must(t.written == 0 || out[t.written - 1] == '\n', "a text ends with its line");
     must(t.number == 39 || (r.number != 0) == (out[0] == 's'), "reader and report agree");
+    uint8_t *words = lend(room, NULL, 0, 1);
+    zakvind_reported w = zakvind_explain(sheet, n, words, room);
+    given(6, (const uint64_t *)&w, 2);
+    must(w.number == 0 || (w.number == 39 && w.written == 0), "an explanation's refusal");
+    kept(2, w.written, "what is past the explanation is kept");
+    seen(2, w.written);
+    must(w.number == 39 || (w.written > t.written && memcmp(words, out, t.written) == 0), "an explanation begins as its report");
+    speak(1, r.number, r.place, 0, 0, 0, 0);
 }
 
 static void call_build(input *in)
@@ -203,6 +227,16 @@ static void call_build(input *in)
         seen(8 + i, written[i] * width[i]);
     }
     must(b.number == 0 || (b.recorded == 0 && b.scratch_size == 0), "a refusal records nothing");
+    const zakvind_room room = zakvind_room_for(t[1], n[1], t[4], n[4], t[5], n[5], t[6], n[6], t[7], n[7]);
+    const size_t rooms[7] = {room.blas_offsets, room.tlas_offsets, room.staging_ranges, room.instances,
+                             room.init_ranges, room.compactable, room.lists};
+    int fits = 1;
+    for (int i = 0; i < 7; i++) {
+        must(!b.recorded || written[i] == rooms[i], "the room is what is written");
+        fits = fits && rooms[i] <= m[i];
+    }
+    must(b.number != 39 || !fits, "with its room no build is refused by 39");
+    speak(2, b.number, b.e0, b.e1, b.f0, b.f1, b.f2);
 }
 
 static void call_submit(input *in)
@@ -218,6 +252,7 @@ static void call_submit(input *in)
     kept(3, 0, "the lists are kept");
     must(i.active_submission_index == was.active_submission_index, "the submission index never moves");
     must(s.number == 0 || s.action <= a / 4, "the refused action is one of them");
+    speak(3, s.number, s.action, s.action < a / 4 ? actions[4 * s.action] : 0, s.f0, s.f1, 0);
     if (i.next_acceleration_structure_build_command_index == was.next_acceleration_structure_build_command_index) {
         kept(0, 0, "without a Build the Blases are kept");
         kept(1, 0, "without a Build the Tlases are kept");
@@ -238,8 +273,10 @@ static void call_append(input *in)
     given(4, (const uint64_t *)&r, 7);
     for (int k = 0; k < 3; k++)
         kept(k, 0, "the tables and the instance are kept");
+    speak(4, r.number, r.e0, r.e1, r.f0, r.f1, r.f2);
     if (r.number) {
         kept(3, 0, "a refusal writes nothing");
+        must(r.used == used, "a refusal hands back the bytes in use as they were");
         return;
     }
     must(r.used == used + 64 && r.used <= room, "64 bytes are appended");

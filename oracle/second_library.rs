@@ -8,6 +8,8 @@ mod layout;
 mod reading;
 #[path = "src/side.rs"]
 mod side;
+#[path = "src/words.rs"]
+mod words;
 
 use side::{Lent, Outputs, Side};
 use std::slice::{from_raw_parts as lent, from_raw_parts_mut as lent_mut};
@@ -116,4 +118,56 @@ pub unsafe extern "C" fn zakvind_append_instance(
 #[no_mangle]
 pub unsafe extern "C" fn zakvind_report(sheet: *const u8, n: usize, out: *mut u8, m: usize) -> Numbers<2> {
     Numbers(reading().report(lent(sheet, n), lent_mut(out, m)))
+}
+
+/// Writes a text, or nothing where it doesn't fit.
+fn written(text: &[u8], out: &mut [u8]) -> Numbers<2> {
+    let Some(part) = out.get_mut(..text.len()) else { return Numbers([39, 0]) };
+    part.copy_from_slice(text);
+    Numbers([0, text.len() as u64])
+}
+
+#[no_mangle]
+pub unsafe extern "C" fn zakvind_words(
+    call: u64,
+    number: u64,
+    e0: u64,
+    e1: u64,
+    f0: u64,
+    f1: u64,
+    f2: u64,
+    out: *mut u8,
+    m: usize,
+) -> Numbers<2> {
+    written(words::words(call, number, [e0, e1], [f0, f1, f2]).as_bytes(), lent_mut(out, m))
+}
+
+/// The refusal that a report's lines tell, in words.
+fn explanation(sheet: &[u8], lines: &str) -> String {
+    let told = |word: &str| -> Option<Vec<u64>> {
+        let line = lines.lines().find(|l| l.starts_with(word))?;
+        line.split(' ').skip(1).map(|n| n.parse().ok()).collect()
+    };
+    if let Some(n) = told("sheet") {
+        return words::words(1, n[0], [n[1], 0], [0; 3]);
+    }
+    match (told("build"), told("submit")) {
+        (Some(n), _) if n[0] != 0 => words::words(2, n[0], [n[1], n[2]], [n[3], n[4], n[5]]),
+        (_, Some(n)) if n[0] != 0 => {
+            let actions = reading().read_sheet(sheet)[21] as usize;
+            let kind = sheet[actions + 3 * n[1] as usize];
+            words::words(3, n[0], [n[1], kind.into()], [n[2], n[3], 0])
+        }
+        _ => words::words(2, 0, [0; 2], [0; 3]),
+    }
+}
+
+#[no_mangle]
+pub unsafe extern "C" fn zakvind_explain(sheet: *const u8, n: usize, out: *mut u8, m: usize) -> Numbers<2> {
+    let (sheet, mut text) = (lent(sheet, n), vec![0; 1 << 16]);
+    let [_, length] = reading().report(sheet, &mut text);
+    text.truncate(length as usize);
+    let lines = String::from_utf8_lossy(&text).into_owned();
+    let explained = lines.clone() + &explanation(sheet, &lines);
+    written(explained.as_bytes(), lent_mut(out, m))
 }

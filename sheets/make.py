@@ -8,8 +8,9 @@ here = pathlib.Path(__file__).resolve().parent
 sys.path.insert(0, str(here.parent / "tests"))
 
 from make_read_cases import record, sheet, worked  # noqa: E402
-from printed import explanation, told  # noqa: E402
-from reading import NONE  # noqa: E402
+from printed import explained, explanation, told  # noqa: E402
+from reading import NONE, Walked  # noqa: E402
+from verdict import Verdict  # noqa: E402
 
 BUILD, USE, MARK_BLAS, MARK_TLAS = 1, 2, 3, 4
 
@@ -87,9 +88,10 @@ def main():
         else:
             file.write_bytes(data)
         text, refusal = told(data)
-        if text not in readme or explanation(refusal).strip() not in readme:
+        words = explanation(refusal) + Verdict(Walked(data), explained(data)).named
+        if text not in readme or words.strip() not in readme:
             wrong.append(f"what README.md has for {name}")
-            print(f"{name}:\n{text}{explanation(refusal)}")
+            print(f"{name}:\n{text}{words}")
     for w in wrong:
         print(f"not as made: {w}")
     sys.exit(1 if wrong else 0)

@@ -4,20 +4,9 @@ import pathlib
 import random
 import struct
 
-from reading import LIMITS, NONE, read
+from reading import LIMITS, NONE, SECTIONS, SIZES, read, single
 
-SIZES = (9, 28, 18, 22, 5, 44, 4, 56, 3)
-WIDTHS = (
-    (8, 1),
-    (1, 1, 1, 1, 8, 8, 8),
-    (2, 1, 4, 1, 2, 2, 1, 1, 4),
-    (1, 1, 8, 4, 8),
-    (2, 1, 2),
-    (1, 4, 4, 8, 2, 1, 1, 2, 1, 4, 1, 4, 2, 1, 8),
-    (2, 2),
-    (1, 2, 4, 1) + (4,) * 12,
-    (1, 2),
-)
+WIDTHS = tuple(tuple(f.width for f, _, _ in single(s.fields)) for s in SECTIONS)
 # the first value that a judged field may not have, by section and field; absent: any value
 FIRST_BAD = {
     (1, 1): 4,

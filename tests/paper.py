@@ -1,11 +1,10 @@
 """A reading of the paper's "Building, in order" and "Submission" over lent tables, written apart from the definitions."""
 import struct
 
-from reading import LIMITS, NONE, Refused, Sheet, bit, declared, geometry
+from reading import LIMITS, NONE, SIZES, record_fits
 
 U64 = 2**64 - 1
 U32 = 2**32 - 1
-SIZES = (9, 28, 18, 22, 5, 44, 4, 56, 3)
 
 
 class No(Exception):
@@ -67,45 +66,21 @@ def judge_table(section, table, before):
     rows = records(table, section)
     if len(rows) > LIMITS[section - 1]:
         return 4, 0
-    kinds = None
+    blas_kinds, boxes = [], [False] * len(rows)
     if section == 3:
-        kinds = [r[0] for r in records(before, 2)]
+        blas_kinds = [r[0] for r in records(before, 2)]
     if section in (6, 8):
         counts = [numbers(r[-2:], 2)[0] for r in records(before, section - 1)]
         if sum(counts) != len(rows):
             return 5, 0
         if section == 6:
-            kinds = [r[2] for r, n in zip(records(before, 5), counts) for _ in range(n)]
+            boxes = [r[2] == 1 for r, n in zip(records(before, 5), counts) for _ in range(n)]
     for i, r in enumerate(rows):
-        s = Sheet(r)
-        try:
-            judge_record(s, section, kinds, i)
-        except Refused as refused:
-            return refused.answer[0], i
+        if not record_fits(section, r, boxes[i], blas_kinds):
+            return 5, i
     if len(table) % size:
         return 5, len(rows)
     return None
-
-
-def judge_record(s, section, kinds, i):
-    if section == 1:
-        s.take(8)
-        s.take(1, lambda v: v < 4)
-    elif section == 2:
-        for good in (bit, lambda v: v < 8, lambda v: v < 4, bit):
-            s.take(1, good)
-    elif section == 3:
-        declared(s, kinds)
-    elif section == 4:
-        s.take(1, lambda v: v in (0, 2))
-        s.take(1, bit)
-    elif section == 5:
-        s.take(2)
-        s.take(1, bit)
-    elif section == 6:
-        geometry(s, kinds[i] == 1)
-    elif section == 8:
-        s.take(1, bit)
 
 
 def check_geometry(d, g, boxes, blas_of, buffers, asked):

@@ -1,55 +1,10 @@
 """What the sheet program prints for a sheet, from the readings in reading.py and paper.py, and what it refuses in words."""
 from paper import build, submit
-from reading import read
+from reading import CAUSES, SIZES, read
 
 # as many elements of each output as any sheet can need
 ROOMS = (64, 32, 64, 32768, 2304, 64, 640)
-SIZES = (9, 28, 18, 22, 5, 44, 4, 56, 3)
 
-# the column "Cause" of the paper's table, each with the words for its figures that are printed
-CAUSES = {
-    1: ("version not 1",),
-    2: ("sheet ends early",),
-    3: ("bytes after the sheet",),
-    4: ("count above its limit",),
-    5: ("value outside its field",),
-    6: ("id outside its table",),
-    10: ("kind mismatch",),
-    11: ("more geometries than declared",),
-    12: ("flags differ", "declared", "given"),
-    13: ("vertex count above declared", "declared", "given"),
-    14: ("vertex format differs", "declared", "given"),
-    15: ("stride below least", "needed", "given"),
-    16: ("stride not a multiple", "needed", "given"),
-    17: ("index count on one side only",),
-    18: ("index count above declared", "declared", "given"),
-    19: ("index format differs", "declared", "given"),
-    20: ("index count declared, no index buffer",),
-    21: ("destroyed",),
-    22: ("no BLAS_INPUT",),
-    23: ("region overruns buffer", "offset", "region", "size"),
-    24: ("first index, index count or transform offset absent",),
-    25: ("index format none",),
-    26: ("product or offset above 2^32 - 1", "offset", "count", "stride"),
-    27: ("index count not in threes", "count"),
-    28: ("transform unflagged",),
-    29: ("transform offset not in 16s",),
-    30: ("transform flagged, absent",),
-    31: ("box count above declared", "declared", "given"),
-    32: ("box offset not in eights",),
-    33: ("box stride below 24 or not in eights", "stride"),
-    34: ("custom data from 2^24 on",),
-    35: ("Tlas returns vertices, Blas does not",),
-    36: ("too many present slots", "count", "most"),
-    37: ("scratch 2^64 - 1",),
-    38: ("compacted Blas",),
-    39: ("lent output too short",),
-    40: ("counter 0",),
-    41: ("Blas to build is compacted", "Blas"),
-    42: ("Blas without number", "Blas", "Tlas"),
-    43: ("Tlas without number", "Tlas"),
-    44: ("Blas newer than Tlas", "Blas", "Tlas"),
-}
 # what a build's E is, where it is no entry and geometry
 PLACES = {
     4: ("section", "record"),
@@ -79,7 +34,7 @@ def explanation(refusal):
     if refusal is None:
         return "nothing is refused\n"
     what, number, place, figures = refusal
-    words, *names = CAUSES[number]
+    words, names = CAUSES[number].words, CAUSES[number].figures
     if what == "sheet":
         items = [("byte", place)]
     elif what == "action":

@@ -1,109 +1,26 @@
-"""A reading of the paper's part "The sheet", written apart from the definitions: the first refusal with its byte place, or what is read."""
+"""A reading of the paper's part "The sheet" over its description in format/, written apart from the definitions: the first refusal with
+its byte place, or what is read; and a record of a lent table judged for itself."""
+import pathlib
+import sys
 
-LIMITS = (256, 128, 512, 32, 64, 256, 32, 512, 64)
-NONE = 65535
+sys.path.insert(0, str(pathlib.Path(__file__).resolve().parent.parent / "format"))
 
-
-class Refused(Exception):
-    def __init__(self, number, place):
-        self.answer = (number, place)
-
-
-class Sheet:
-    def __init__(self, data):
-        self.data, self.at = data, 0
-
-    def take(self, width, good=lambda v: True):
-        place, value = self.at, self.data[self.at : self.at + width]
-        if len(value) < width:
-            raise Refused(2, place)
-        self.at += width
-        value = int.from_bytes(value, "little")
-        if not good(value):
-            raise Refused(5, place)
-        return value
-
-    def count(self, section, sum_of=None):
-        place = self.at
-        value = self.take(2)
-        if value > LIMITS[section - 1]:
-            raise Refused(4, place)
-        if sum_of is not None and sum_of != value:
-            raise Refused(5, place)
-        return value
-
-
-def bit(v):
-    return v < 2
-
-
-def declared(s, kinds):
-    boxes = kinds[s.take(2, lambda v: v < len(kinds))] == 1
-    s.take(1)
-    s.take(4)
-    s.take(1)
-    s.take(2)
-    s.take(2, lambda v: boxes or v > 0)
-    s.take(1, lambda v: boxes or v < 3)
-    s.take(1, lambda v: boxes or bit(v))
-    s.take(4)
-
-
-def geometry(s, boxes):
-    for width in (1, 4, 4, 8):
-        s.take(width)
-    s.take(2, lambda v: v != NONE)
-    s.take(1)
-    s.take(1, lambda v: boxes or v < 3)
-    index = s.take(2)
-    s.take(1, lambda v: boxes or bit(v))
-    s.take(4)
-    s.take(1, lambda v: boxes or index == NONE or bit(v))
-    s.take(4)
-    transform = s.take(2)
-    s.take(1, lambda v: boxes or transform == NONE or bit(v))
-    s.take(8)
+from layout import LIMITS, NONE, SECTIONS, SIZES, single  # noqa: E402, F401
+from refusals import CAUSES  # noqa: E402, F401
+from walk import WHOLE, Record, Walked, judged  # noqa: E402
 
 
 def read(data):
     """(number, place) of the first refusal, or (0, version, alignment, counter, start and count of each section)."""
-    s = Sheet(data)
-    places = []
+    w = Walked(data)
+    if w.refusal:
+        return (w.refusal.number, w.refusal.place)
+    places = [n for t in w.tables for n in (t.place + 2, t.count)]
+    return (0, w.head["version"], w.head["alignment"], w.head["counter"], *places)
 
-    def section(number, record, sum_of=None):
-        n = s.count(number, sum_of)
-        places.extend((s.at, n))
-        return [record() for _ in range(n)]
 
-    try:
-        if s.take(1) != 1:
-            raise Refused(1, 0)
-        alignment = s.take(4, lambda v: v > 0)
-        counter = s.take(8)
-        section(1, lambda: (s.take(8), s.take(1, lambda v: v < 4)))
-        kinds = section(
-            2,
-            lambda: (
-                s.take(1, bit),
-                s.take(1, lambda v: v < 8),
-                s.take(1, lambda v: v < 4),
-                s.take(1, bit),
-                s.take(8),
-                s.take(8),
-                s.take(8),
-            )[0],
-        )
-        section(3, lambda: declared(s, kinds))
-        section(4, lambda: (s.take(1, lambda v: v in (0, 2)), s.take(1, bit), s.take(8), s.take(4), s.take(8)))
-        entries = section(5, lambda: (s.take(2), s.take(1, bit), s.take(2)))
-        drawn = [kind == 1 for _, kind, n in entries for _ in range(min(n, 300))]
-        each = iter(drawn)
-        section(6, lambda: geometry(s, next(each)), sum(n for _, _, n in entries))
-        packages = section(7, lambda: (s.take(2), s.take(2)))
-        section(8, lambda: [s.take(w, bit if i == 0 else lambda v: True) for i, w in enumerate([1, 2, 4, 1] + [4] * 12)], sum(n for _, n in packages))
-        section(9, lambda: (s.take(1, lambda v: 1 <= v <= 4), s.take(2)))
-        if s.at < len(data):
-            raise Refused(3, s.at)
-    except Refused as refused:
-        return refused.answer
-    return (0, 1, alignment, counter, *places)
+def record_fits(section, raw, boxes, blas_kinds):
+    """Whether a whole record of a lent table has only values that its fields may have."""
+    values = WHOLE[section].unpack(raw)
+    judging = judged(SECTIONS[section - 1], Record(0, boxes), values, lambda i: blas_kinds[i] if i < len(blas_kinds) else 0, lambda _: len(blas_kinds))
+    return all(allowed for *_, allowed in judging)

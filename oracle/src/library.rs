@@ -16,7 +16,7 @@ impl Side for Library {
     }
 
     fn build(&mut self, alignment: u32, tables: [&[u8]; 8], out: Outputs) -> [u64; 15] {
-        let out = zakvind::Outputs {
+        let out = zakvind::LentOutputs {
             blas_offsets: out.blas_offsets,
             tlas_offsets: out.tlas_offsets,
             staging_ranges: out.staging_ranges,

@@ -826,7 +826,7 @@ impl Side for Reading {
     }
 
     fn append(&mut self, tlases: &[u8], blases: &[u8], t: u16, instance: &[u8; 55], instances: &mut [u8], used: u64) -> [u64; 7] {
-        let no = |n: u64| [n, 0, 0, 0, 0, 0, 0];
+        let no = |n: u64| [n, 0, 0, 0, 0, 0, used];
         let id = number_at(instance, 0, 2);
         if u64::from(t) >= count(3, tlases) || id >= count(1, blases) {
             return no(6);

@@ -503,7 +503,7 @@ impl Side for RustSide {
             }
             Err((number, mark)) => {
                 self.tally.answer("append", number, mark);
-                [number, 0, 0, 0, 0, 0, 0]
+                [number, 0, 0, 0, 0, 0, used]
             }
         }
     }

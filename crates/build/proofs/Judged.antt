@@ -13,13 +13,13 @@ use Rattle.ray_tracing.specs.Plan as plan
 use Rattle.ray_tracing.proofs.Inside.{inside}
 use Rattle.build_judge.specs.declared.Judgement.{Judgement}
 use Rattle.build_judge.specs.declared.Judgement.the-variants as judgement
-use Rattle.build_judge.specs.Judging.{BuildJudged, not-built, nothing, to-record, judgementOf, judgeBuild}
+use Rattle.build_judge.specs.Judging.{BuildJudged, to-refuse, to-record-nothing, to-record, judgementOf, judgeBuild}
 use Rattle.build_judge.proofs.Answer.{Passed, nothing-passed, recorded-passed, answer-refused, answer-nothing, answer-recorded}
 use Rattle.build_ranges.specs.Ranges.{DrawnFit}
 use Rattle.build_plan.specs.Planned.{planned, Plannable}
 use Rattle.build_plan.proofs.Judged.{plan-is, geometries-drawn, plannable}
 use Rattle.build_plan.proofs.Lengths.{counts-any}
-use Rattle.build.specs.Room.{recordedIf, nothingIf, planFrom, rangesIn, Writes}
+use Rattle.build.specs.Room.{recordedIf, nothingIf, planFrom, rangesOut, Writes}
 use Rattle.build.proofs.Room.{fits, room-is}
 
 -- ---- an answer that room decides, by a test that it is short
@@ -90,7 +90,7 @@ module _ (x : Tables) where
     module _ (o : Outputs) {lent : Written} (l : countsOf o ≡ lent) where
       -- nothing recorded, or 39
       pub nothing-build :
-          {n : ℕ} → j ≡ judgement.Nothing → n ≡ length (rangesIn x) → nothingIf n (lent .«init_ranges») ≡ build x o
+          {n : ℕ} → j ≡ judgement.Nothing → n ≡ length (rangesOut x) → nothingIf n (lent .«init_ranges») ≡ build x o
       nothing-build h e =
           let cells = e ∙ ap (λ (p : Outputs). length (p .«init_ranges»)) (plan-from (nothing-passed x (told h))) in
           (λ i. nothingIf (cells i) (sym l i .«init_ranges»)) ∙ sym (answer-nothing x o (told h))
@@ -110,8 +110,8 @@ module _ (x : Tables) where
 
 module _ (x : Tables) (o : Outputs) where
   left-by : (j : BuildJudged) → judgeBuild x ≡ j → leaves (build x o) (planFrom x) o ≡ leaves (build x o) (plan.planOf x) o
-  left-by (not-built e f c) h = rw (answer-refused x o e f c h)
-  left-by nothing h = ap (λ (p : Outputs). leaves (build x o) p o) (plan-from x (nothing-passed x h))
+  left-by (to-refuse e f c) h = rw (answer-refused x o e f c h)
+  left-by to-record-nothing h = ap (λ (p : Outputs). leaves (build x o) p o) (plan-from x (nothing-passed x h))
   left-by (to-record n) h = ap (λ (p : Outputs). leaves (build x o) p o) (plan-from x (recorded-passed x n h))
 
   -- what is left is what the plan leaves
@@ -120,12 +120,12 @@ module _ (x : Tables) (o : Outputs) where
 
   module _ (bytes : (k : ℕ) → getD (x .buffers) k 0 < 256) where
     writes-by : (j : BuildJudged) → judgeBuild x ≡ j → Writes (build x o) x o
-    writes-by (not-built e f c) h =
+    writes-by (to-refuse e f c) h =
         record {
           plan = λ n w q. let r = answer-refused x o e f c h in let z : _≡_ {A = ℕ} 0 1 = cc in absurd (omega arith);
           ranges = λ n q. let r = answer-refused x o e f c h in let z : _≡_ {A = ℕ} 0 1 = cc in absurd (omega arith);
         }
-    writes-by nothing h =
+    writes-by to-record-nothing h =
         let p = nothing-passed x h in
         let r = sym (answer-nothing x o h) in
         record {
@@ -133,7 +133,7 @@ module _ (x : Tables) (o : Outputs) where
           ranges =
               λ n q. (
                 passed-drawn x bytes p,
-                fits (rangesIn x) (o .«init_ranges»)
+                fits (rangesOut x) (o .«init_ranges»)
                     (ap (λ (y : Outputs). short (y .«init_ranges») (o .«init_ranges»)) (plan-from x p)
                     ∙ some-nothing (short (plan.planOf x .«init_ranges») (o .«init_ranges»)) _ n (r ∙ q)),
               );

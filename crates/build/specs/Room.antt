@@ -33,8 +33,8 @@ nothingIf cells lent = unless (on (ltb lent cells) (refused 0 0 (bare 39))) (not
 abbrev pub planFrom : Tables → Outputs
 planFrom x = planned (x .alignment) (x .blases) (x .tlases) (x .entries) (x .geometries) (x .packages) (x .slots)
 
-abbrev pub rangesIn : Tables → List ℕ
-rangesIn x = allRanges (x .entries) (x .geometries) 0 0 (entriesIn (x .entries))
+abbrev pub rangesOut : Tables → List ℕ
+rangesOut x = allRanges (x .entries) (x .geometries) 0 0 (entriesIn (x .entries))
 
 -- what an answer may write was judged, and has room
 pub record Writes (b : Building) (x : Tables) (o : Outputs) : Type 0 where
@@ -46,4 +46,4 @@ pub record Writes (b : Building) (x : Tables) (o : Outputs) : Type 0 where
   pub ranges :
       (n : ℕ)
       → b ≡ nothing-recorded n
-      → DrawnFit (x .entries) (x .geometries) × (length (rangesIn x) ≤ length (o .«init_ranges»))
+      → DrawnFit (x .entries) (x .geometries) × (length (rangesOut x) ≤ length (o .«init_ranges»))

@@ -1,6 +1,6 @@
 // Entries, geometries in turn: each against what its Blas declares, found by an index of section 3.
-use build_geometry::check_aabbs;
-use build_geometry::check_triangles;
+use build_boxes::check_aabbs;
+use build_triangles::check_triangles;
 use ray_tracing::BUFFER_SIZE;
 use ray_tracing::Blas;
 use ray_tracing::BlasGeometry;

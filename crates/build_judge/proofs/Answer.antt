@@ -31,7 +31,7 @@ use Rattle.ray_tracing.specs.Plan.{
 }
 use Rattle.ray_tracing.specs.Plan as plan
 use Rattle.ray_tracing.proofs.Verdicts.{or-passed}
-use Rattle.build_judge.specs.Judging.{BuildJudged, not-built, nothing, to-record, judgedUnless, judgeToPackages, judgeBuild}
+use Rattle.build_judge.specs.Judging.{BuildJudged, to-refuse, to-record-nothing, to-record, judgedUnless, judgeToPackages, judgeBuild}
 
 -- what is judged in any case passed, part by part
 pub record Passed (x : Tables) : Type 0 where
@@ -44,9 +44,9 @@ pub record Passed (x : Tables) : Type 0 where
 
 module _ (r : Verdict) (b : Bool) (v : Verdict) (n : ℕ) where
   abbrev ended : BuildJudged
-  ended = judgedUnless r (cond b nothing (judgedUnless v (to-record n)))
+  ended = judgedUnless r (cond b to-record-nothing (judgedUnless v (to-record n)))
 
-none-passed : (r : Verdict) (b : Bool) (v : Verdict) (n : ℕ) → ended r b v n ≡ nothing → (r ≡ passed) × (b ≡ true)
+none-passed : (r : Verdict) (b : Bool) (v : Verdict) (n : ℕ) → ended r b v n ≡ to-record-nothing → (r ≡ passed) × (b ≡ true)
 none-passed passed true v n e = (refl, refl)
 none-passed passed false passed n e =
     let z : _≡_ {A = ℕ} 0 1 = cc in
@@ -86,8 +86,8 @@ module _ (x : Tables) (o : Outputs) where
   recordedIn n = plan.unless (on (tooShort (planOf x) o) (refused 0 0 (bare 39))) (recorded n (countsOf (planOf x)))
 
   abbrev answered : BuildJudged → Building
-  answered (not-built e f c) = plan.not-built e f c
-  answered nothing = nothingIn
+  answered (to-refuse e f c) = plan.not-built e f c
+  answered to-record-nothing = nothingIn
   answered (to-record n) = recordedIn n
 
   answered-end :
@@ -105,10 +105,10 @@ module _ (x : Tables) (o : Outputs) where
 
   -- each of the three
 
-  pub answer-refused : (e f : ℕ) (c : Cause) → judgeBuild x ≡ not-built e f c → build x o ≡ plan.not-built e f c
+  pub answer-refused : (e f : ℕ) (c : Cause) → judgeBuild x ≡ to-refuse e f c → build x o ≡ plan.not-built e f c
   answer-refused e f c h = build-answered ∙ rw h
 
-  pub answer-nothing : judgeBuild x ≡ nothing → build x o ≡ nothingIn
+  pub answer-nothing : judgeBuild x ≡ to-record-nothing → build x o ≡ nothingIn
   answer-nothing h = build-answered ∙ rw h
 
   pub answer-recorded : (n : ℕ) → judgeBuild x ≡ to-record n → build x o ≡ recordedIn n
@@ -123,7 +123,7 @@ module _ (x : Tables) where
       let c = or-passed (judgeEntries x) _ (b .1) in
       record { tables = a .0; ids = b .0; entries = c .0; packages = c .1 }
 
-  pub nothing-passed : judgeBuild x ≡ nothing → Passed x
+  pub nothing-passed : judgeBuild x ≡ to-record-nothing → Passed x
   unfolding judgeBuild
   nothing-passed h = records-passed (none-passed (judgeToPackages x) (eqb (scratchSize x) 0) (judgeFinal x) (scratchSize x) h .0)
 

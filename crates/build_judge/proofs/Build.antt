@@ -15,7 +15,7 @@ use Rattle.ray_tracing.proofs.Inside.{drawnBefore, slotsBefore, Inside, inside,
 use Rattle.ray_tracing.specs.Parts.{forPackages, forEntries, entriesIn, packagesIn, PackagesNamed, EntriesNamed}
 use Rattle.build_packages.specs.Within.{PackagesInside}
 use Rattle.build_ids.proofs.Laws.{or-first, or-second}
-use Rattle.build_judge.specs.Judging.{not-built, nothing, to-record, judgeToPackages, judgeBuild}
+use Rattle.build_judge.specs.Judging.{to-refuse, to-record-nothing, to-record, judgeToPackages, judgeBuild}
 
 module _ (x : Tables) where
   -- what judging ids and packages reads of the tables
@@ -110,12 +110,12 @@ module _ (x : Tables) where
   unfolding judgeFinal
   final-part e = ap finalPart e
 
-  pub build-refused : (e f : ℕ) (c : Cause) → judgeToPackages x ≡ refused e f c → not-built e f c ≡ judgeBuild x
+  pub build-refused : (e f : ℕ) (c : Cause) → judgeToPackages x ≡ refused e f c → to-refuse e f c ≡ judgeBuild x
   unfolding judgeBuild
   build-refused e f c h = rw h
 
   module _ (h : judgeToPackages x ≡ passed) {n : ℕ} (s : n ≡ scratchSize scratchPart) where
-    pub build-nothing : n ≡ 0 → nothing ≡ judgeBuild x
+    pub build-nothing : n ≡ 0 → to-record-nothing ≡ judgeBuild x
     unfolding judgeBuild
     build-nothing z = rw (h, eq-eqb (scratchSize x) 0 (sym (s ∙ scratch-part) ∙ z))
 
@@ -130,6 +130,6 @@ module _ (x : Tables) where
       unfolding judgeBuild
       build-to-record q = rw (h, some-scratch, sym last ∙ q) (ap to-record (s ∙ scratch-part))
 
-      pub build-last-refused : (e f : ℕ) (c : Cause) → v ≡ refused e f c → not-built e f c ≡ judgeBuild x
+      pub build-last-refused : (e f : ℕ) (c : Cause) → v ≡ refused e f c → to-refuse e f c ≡ judgeBuild x
       unfolding judgeBuild
       build-last-refused e f c q = rw (h, some-scratch, sym last ∙ q)

@@ -21,18 +21,18 @@ use Rattle.build_judge.specs.declared.Judgement.the-variants as judgemen
 
 -- refused, with E; nothing to record; or to be recorded, with the scratch size
 pub data BuildJudged : Type 0 where
-  not-built : ℕ → ℕ → Cause → BuildJudged
-  nothing : BuildJudged
+  to-refuse : ℕ → ℕ → Cause → BuildJudged
+  to-record-nothing : BuildJudged
   to-record : ℕ → BuildJudged
 
 abbrev pub judgementOf : Judgement → BuildJudged
-judgementOf (judgement.Refused c e f) = not-built e f (buildCause c)
-judgementOf judgement.Nothing = nothing
+judgementOf (judgement.Refused c e f) = to-refuse e f (buildCause c)
+judgementOf judgement.Nothing = to-record-nothing
 judgementOf (judgement.ToRecord n) = to-record n
 
 abbrev pub judgedUnless : Verdict → BuildJudged → BuildJudged
 judgedUnless passed j = j
-judgedUnless (refused e f c) j = not-built e f c
+judgedUnless (refused e f c) j = to-refuse e f c
 
 -- what is judged in any case
 unfoldable pub judgeToPackages : Tables → Verdict
@@ -42,4 +42,4 @@ judgeToPackages x = judgeTables x or judgeIds x or judgeEntries x or judgePackag
 unfoldable pub judgeBuild : Tables → BuildJudged
 judgeBuild x =
     judgedUnless (judgeToPackages x)
-    (cond (eqb (scratchSize x) 0) nothing (judgedUnless (judgeFinal x) (to-record (scratchSize x))))
+    (cond (eqb (scratchSize x) 0) to-record-nothing (judgedUnless (judgeFinal x) (to-record (scratchSize x))))

@@ -12,13 +12,15 @@ use borrow.Author.Tests.{ne-eqb, leb-false, ltb-true, ltb-false}
 use Rattle.instance.specs.Writable.{Writable}
 use Rattle.ray_tracing.specs.Guard.{refuse}
 use Rattle.ray_tracing.specs.Instances.{presentOf, slotsBytes}
-use Rattle.ray_tracing.specs.Plan.{Tables, passed, recordsIn, entryOf, geometryOf, geometryCount, slotCount, slotPresent, slotCustomData, blasOfEntry, checkedAt, checkedE, asked, judgeEntry, judgeEntries, judgeSlot, judgePackage, judgePackages, blasScratch, tlasScratch, offsetsFrom, stagingFrom, rangesOfEntry, rangesFrom, compactableFrom, entryBlases, packageLists, planOf}
+use Rattle.ray_tracing.specs.Plan.{Tables, passed, recordsIn, entryOf, geometryOf, geometryCount, slotCount, slotPresent, blasOfEntry, checkedAt, checkedE, asked, judgeEntry, judgeEntries, judgeSlot, judgePackage, judgePackages, blasScratch, tlasScratch, offsetsFrom, stagingFrom, rangesOfEntry, rangesFrom, compactableFrom, entryBlases, packageLists, planOf}
 use Rattle.ray_tracing.proofs.Verdicts.{or-passed, none-atE, none-cond, each-passed, each-drawing}
 use Rattle.ray_tracing.proofs.Inside.{Inside, drawnBefore, drawn-none, drawn-more, slotsBefore, slots-none, slots-more}
 use Rattle.ray_tracing.specs.Parts.{ofEntries, ofPackages}
-use Rattle.build_plan.specs.Parts.{packageList, AllWritable, Drawn}
+use Rattle.build_lists.specs.Lists.{packageList, Drawn}
+use Rattle.build_plan.specs.Parts.{AllWritable}
 use Rattle.build_ranges.specs.Ranges.{geometryRanges, entryRanges, allRanges, AllFit, DrawnFit}
 use Rattle.build_plan.specs.Planned.{planned, Plannable}
+use Rattle.ray_tracing.proofs.Vulkan.{slot-narrow}
 use Rattle.build_plan.proofs.Asked.{asked-is, asked-fits}
 
 -- ---- the sections that a list looks at
@@ -129,31 +131,7 @@ module _ (x : Tables) where
   find s zero h l = absurd (not-suc-le-zero (rw (slots-none x) at l))
   find s (suc n) h l = found-last s n h (rw (add-one n) l) (find s n (omega arith))
 
-first-none : (t u : Bool) → _≡_ {A = ℕ} (refuse t 34 (refuse u 35 0)) 0 → t ≡ false
-unfolding refuse
-first-none false u e = refl
-first-none true u e = let z : _≡_ {A = ℕ} 34 0 = e in absurd (omega arith)
-
 module _ (x : Tables) (e : judgePackages x ≡ passed) where
-  package-passed : (p : ℕ) → p < recordsIn x 7 → judgePackage x p (slotsBefore x p) ≡ passed
-  unfolding judgePackages
-  package-passed p h =
-      rw zero-add at (each-drawing (judgePackage x) (slotCount x) (slotsBefore x) (slots-more x) (recordsIn x 7) 0 (rw (slots-none x) e) p h)
-
-  slot-passed : (p j : ℕ) → p < recordsIn x 7 → j < slotCount x p → judgeSlot x p j (slotsBefore x p + j) ≡ passed
-  slot-passed p j h k =
-      rw zero-add at
-      (each-passed (λ (j : ℕ). judgeSlot x p j (slotsBefore x p + j)) (slotCount x p) 0 (or-passed _ _ (package-passed p h) .0) j k)
-
-  -- 34 was judged
-  slot-narrow :
-      (p j : ℕ)
-      → p < recordsIn x 7
-      → j < slotCount x p
-      → slotPresent (x .slots) (slotsBefore x p + j) ≡ true
-      → slotCustomData (x .slots) (slotsBefore x p + j) < 2 ^ 24
-  slot-narrow p j h k s = leb-false _ _ (first-none _ _ (none-cond _ _ (none-atE p j _ (slot-passed p j h k)) s))
-
   module _ (i : Inside x) where
     writable-at : (s : ℕ) → s < recordsIn x 8 → slotPresent (x .slots) s ≡ true → Writable (x .blases) (x .slots) (s * 56)
     writable-at s h z =
@@ -163,7 +141,7 @@ module _ (x : Tables) (e : judgePackages x ≡ passed) where
         let y : slotPresent (x .slots) (slotsBefore x p + j) ≡ true = rw (f .here) z in
         record {
           inside = rw (← f .here) (i .slot-blas p j (f .among) (f .drawn) y);
-          narrow = rw (← f .here) (slot-narrow p j (f .among) (f .drawn) y);
+          narrow = rw (← f .here) (slot-narrow x e p j (f .among) (f .drawn) y);
         }
 
     all-writable : AllWritable (x .blases) (x .slots)

@@ -12,7 +12,7 @@ use Rattle.ray_tracing.proofs.Inside.{slotsBefore, slots-none}
 use Rattle.ray_tracing.proofs.Instances.{slots-length}
 use Rattle.ray_tracing.proofs.Plan.{offsets-length, staging-length, blases-length, present-zero, packages-length}
 use Rattle.ray_tracing.specs.Parts.{entriesIn, ofEntries, packagesIn, ofPackages}
-use Rattle.build_plan.specs.Parts.{slotsIn, Drawn}
+use Rattle.build_lists.specs.Lists.{slotsIn, Drawn}
 use Rattle.build_ranges.specs.Ranges.{allRanges}
 use Rattle.build_plan.specs.Planned.{planned}
 

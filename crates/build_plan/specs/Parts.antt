@@ -1,44 +1,39 @@
--- Tables of which only some sections are looked at, as the functions that write one output are lent them. Assumes nothing.
-use Prim.Native.Nat.{ℕ, _+_, _*_, _/_, _%_, _≤_, _<_}
+-- Each output of a recorded build, from the sections that the function that writes it is lent. Assumes nothing.
+use Prim.Native.Nat.{ℕ, _*_, _/_, _%_, _<_}
 use mathlib.Core.Path.{_≡_}
 use mathlib.Core.Bool.{cond}
 use mathlib.Core.List.{List, [], _∷_}
 use lib.Dec.{eqb}
-use lib.ListN.{length}
 use Rattle.ray_tracing.specs.Layout.{size}
 use Rattle.ray_tracing.specs.Records.{fieldAt}
-use Rattle.ray_tracing.proofs.Inside.{slotsBefore}
+use Rattle.ray_tracing.specs.Instances.{slotsBytes}
+use Rattle.ray_tracing.specs.Plan.{Tables, entryOf, blasOfEntry, blasScratch, tlasScratch}
+use Rattle.ray_tracing.specs.Plan.{offsetsFrom, stagingFrom, compactableFrom}
+use Rattle.ray_tracing.specs.Parts.{entriesIn, ofEntries, packagesIn, ofPackages}
 use Rattle.instance.specs.Writable.{Writable}
-use Rattle.ray_tracing.specs.Instances.{presentOf}
-use Rattle.ray_tracing.specs.Parts.{ofPackages, packagesIn}
-use Rattle.ray_tracing.specs.Plan.{Tables, entryOf, packageOf, blasOfEntry, slotCount, slotPresent, slotBlas, dependenciesFrom}
+use Rattle.build_lists.specs.Lists.{slotsIn}
 
-abbrev pub slotsIn : List ℕ → ℕ
-slotsIn slots = length slots / size 8
+abbrev pub blasOffsets : ℕ → List ℕ → List ℕ → List ℕ
+blasOffsets alignment blases entries = offsetsFrom (blasScratch (ofEntries blases entries)) alignment 0 0 (entriesIn entries)
 
--- the slots are those that the packages draw, and there are not too many
-pub record Drawn (packages slots : List ℕ) : Type 0 where
-  pub all : slotsBefore (ofPackages [] packages slots) (packagesIn packages) ≡ slotsIn slots
-  pub drawn :
-      (p : ℕ)
-      → p < packagesIn packages
-      → slotsBefore (ofPackages [] packages slots) p + slotCount (ofPackages [] packages slots) p ≤ slotsIn slots
-  pub most : slotsIn slots ≤ 512
+abbrev pub tlasOffsets : ℕ → List ℕ → List ℕ → List ℕ
+tlasOffsets alignment tlases packages =
+    offsetsFrom (tlasScratch (ofPackages tlases packages [])) alignment 0 0 (packagesIn packages)
+
+abbrev pub stagingIn : List ℕ → List ℕ → List ℕ
+stagingIn packages slots = stagingFrom (ofPackages [] packages slots) 0 0 0 (packagesIn packages)
+
+abbrev pub instancesIn : List ℕ → List ℕ → List ℕ
+instancesIn blases slots = slotsBytes blases slots 0 (slotsIn slots)
+
+-- what entry i adds to the compactable list, and all entries
+abbrev pub compactableOf : Tables → ℕ → List ℕ
+compactableOf x i = cond (eqb (blasOfEntry x i .flags / 4 % 2) 1) (entryOf x i .blas .0 ∷ []) []
+
+abbrev pub compactableIn : List ℕ → List ℕ → List ℕ
+compactableIn blases entries = compactableFrom (ofEntries blases entries) 0 (entriesIn entries)
 
 -- each present slot can be written
 abbrev pub AllWritable : List ℕ → List ℕ → Type 0
 AllWritable blases slots =
     (s : ℕ) → s < slotsIn slots → (fieldAt 8 slots (s * size 8) 0 ≡ 0 → ⊥) → Writable blases slots (s * size 8)
-
--- what entry i adds to the compactable list
-abbrev pub compactableOf : Tables → ℕ → List ℕ
-compactableOf x i = cond (eqb (blasOfEntry x i .flags / 4 % 2) 1) (entryOf x i .blas .0 ∷ []) []
-
--- what slot s adds to its package's list
-abbrev pub dependencyOf : List ℕ → ℕ → List ℕ
-dependencyOf slots s = cond (slotPresent slots s) (slotBlas slots s ∷ []) []
-
--- what package p adds to the lists, whose slots stand from s on
-abbrev pub packageList : Tables → ℕ → ℕ → List ℕ
-packageList x p s =
-    packageOf x p .tlas .0 ∷ presentOf (x .slots) s (slotCount x p) ∷ dependenciesFrom (x .slots) s (slotCount x p)

@@ -1,25 +1,23 @@
 -- What a recorded build writes, from the sections that it looks at. Assumes nothing.
 use Prim.Native.Nat.{ℕ, _≤_}
-use mathlib.Core.List.{List, [], _++_}
+use mathlib.Core.List.{List}
 use lib.ListN.{length}
-use Rattle.ray_tracing.specs.Instances.{slotsBytes}
-use Rattle.ray_tracing.specs.Plan.{Outputs, blasScratch, tlasScratch, offsetsFrom, stagingFrom, compactableFrom, entryBlases, packageLists}
-use Rattle.ray_tracing.specs.Parts.{entriesIn, ofEntries, packagesIn, ofPackages, PackagesNamed, EntriesNamed}
-use Rattle.build_plan.specs.Parts.{slotsIn, Drawn, AllWritable}
-use Rattle.build_ranges.specs.Ranges.{allRanges, DrawnFit}
+use Rattle.ray_tracing.specs.Plan.{Outputs}
+use Rattle.ray_tracing.specs.Parts.{PackagesNamed, EntriesNamed}
+use Rattle.build_ranges.specs.Ranges.{rangesIn, DrawnFit}
+use Rattle.build_lists.specs.Lists.{Drawn, listsIn}
+use Rattle.build_plan.specs.Parts.{blasOffsets, tlasOffsets, stagingIn, instancesIn, compactableIn, AllWritable}
 
 abbrev pub planned : ℕ → List ℕ → List ℕ → List ℕ → List ℕ → List ℕ → List ℕ → Outputs
 planned alignment blases tlases entries geometries packages slots =
     record {
-      «blas_offsets» = offsetsFrom (blasScratch (ofEntries blases entries)) alignment 0 0 (entriesIn entries);
-      «tlas_offsets» = offsetsFrom (tlasScratch (ofPackages tlases packages [])) alignment 0 0 (packagesIn packages);
-      «staging_ranges» = stagingFrom (ofPackages [] packages slots) 0 0 0 (packagesIn packages);
-      instances = slotsBytes blases slots 0 (slotsIn slots);
-      «init_ranges» = allRanges entries geometries 0 0 (entriesIn entries);
-      compactable = compactableFrom (ofEntries blases entries) 0 (entriesIn entries);
-      lists =
-          entryBlases (ofEntries [] entries) 0 (entriesIn entries)
-          ++ packageLists (ofPackages [] packages slots) 0 0 (packagesIn packages);
+      «blas_offsets» = blasOffsets alignment blases entries;
+      «tlas_offsets» = tlasOffsets alignment tlases packages;
+      «staging_ranges» = stagingIn packages slots;
+      instances = instancesIn blases slots;
+      «init_ranges» = rangesIn entries geometries;
+      compactable = compactableIn blases entries;
+      lists = listsIn entries packages slots;
     }
 
 -- what judging showed of them

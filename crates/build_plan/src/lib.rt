@@ -1,46 +1,43 @@
-// What a recorded build writes, one function for each lent output, and how many elements each output takes; its initialisation ranges are
-// written by `build_ranges`.
+// What a recorded build writes, one function for each lent output, and how many elements each output takes. Its initialisation
+// ranges are written by `build_ranges`, its recorded action by `build_lists`.
+use build_lists::write_lists;
 use build_ranges::count_ranges;
 use build_ranges::write_init_ranges;
 use instance::present_of;
 use instance::put_slots;
+use ray_tracing::ENTRY_SIZE;
+use ray_tracing::INSTANCE_SIZE;
+use ray_tracing::PACKAGE_SIZE;
+use ray_tracing::SLOT_SIZE;
 use ray_tracing::Written;
 use records::blas_of_entry;
 use records::entry_at;
-use records::package_at;
+use records::slot_count;
 use records::tlas_of_package;
 use scratch::add_rounded;
-use wire::u8_at;
-use wire::u16_at;
 ghost use mathlib.Core.Path.{_≡_};
-ghost use mathlib.Core.Bool.{cond};
-ghost use mathlib.Core.List.{[], _++_};
-ghost use lib.Dec.{eqb};
-ghost use Prim.Native.Nat.{ℕ, _+_, _*_, _/_, _≤_, _<_};
+ghost use mathlib.Core.List.{[]};
+ghost use Prim.Native.Nat.{_+_, _*_, _≤_, _<_};
 ghost use lib.ListN.{length};
 ghost use lib.Seq.{sets};
-ghost use Rattle.ray_tracing.specs.Instances.{presentOf, slotsBytes};
-ghost use Rattle.ray_tracing.specs.Plan.{blasScratch, tlasScratch, offsetsFrom, compactableFrom, entryBlases, dependenciesFrom, slotCount, packageLists, stagingFrom, countsOf, written, outputsOf};
+ghost use Rattle.ray_tracing.specs.Plan.{countsOf, written, outputsOf};
+ghost use Rattle.ray_tracing.specs.Parts.{entriesIn, ofEntries, packagesIn, PackagesNamed, EntriesNamed};
 ghost use Rattle.build_ranges.specs.Ranges.{DrawnFit};
+ghost use Rattle.build_lists.specs.Lists.{Drawn};
+ghost use Rattle.build_plan.specs.Parts.{blasOffsets, tlasOffsets, stagingIn, instancesIn, AllWritable};
+ghost use Rattle.build_plan.specs.Parts.{compactableOf, compactableIn};
 ghost use Rattle.build_plan.specs.Planned.{planned, Plannable, PlanRoom};
-ghost use Rattle.ray_tracing.specs.Parts.{entriesIn, ofEntries, packagesIn, ofPackages, PackagesNamed, EntriesNamed};
-ghost use Rattle.build_plan.specs.Parts.{slotsIn, Drawn, AllWritable, compactableOf, dependencyOf, packageList};
-
-fn slot_count_of(packages: &[u8], p: usize) -> usize
-    requires { ⌜ p < packagesIn (now packages) ⌝ }
-    ensures { λ r. ⌜ r ≡ slotCount (ofPackages [] (now (packages .entry)) []) p ⌝ }
-{
-    package_at(packages, p * 4).slot_count as usize
-}
 
 // One offset per entry: the total before it.
 fn write_blas_offsets(alignment: u32, blases: &[u8], entries: &[u8], out: &mut [u64])
     requires { ⌜ (1 ≤ alignment) × (entriesIn (now entries) ≤ length (now out)) × EntriesNamed (now blases) (now entries) ⌝ }
-    ensures { λ _. ⌜ now (out .exit) ≡ sets (now (out .entry)) 0 (offsetsFrom (blasScratch (ofEntries (now (blases .entry)) (now (entries .entry)))) alignment 0 0 (entriesIn (now (entries .entry)))) ⌝ }
+    ensures { λ _. ⌜
+        now (out .exit) ≡ sets (now (out .entry)) 0 (blasOffsets alignment (now (blases .entry)) (now (entries .entry)))
+        ⌝ }
 {
     let mut blas_total: u64 = 0;
     let mut i = 0;
-    while i < entries.len() / 5 {
+    while i < entries.len() / ENTRY_SIZE {
         out[i] = blas_total;
         let blas = blas_of_entry(blases, entries, i);
         blas_total = add_rounded(blas_total, blas.build_scratch_size, alignment as u64);
@@ -51,11 +48,13 @@ fn write_blas_offsets(alignment: u32, blases: &[u8], entries: &[u8], out: &mut [
 // One offset per package, from 0 again: Blases and Tlases share the scratch.
 fn write_tlas_offsets(alignment: u32, tlases: &[u8], packages: &[u8], out: &mut [u64])
     requires { ⌜ (1 ≤ alignment) × (packagesIn (now packages) ≤ length (now out)) × PackagesNamed (now tlases) (now packages) ⌝ }
-    ensures { λ _. ⌜ now (out .exit) ≡ sets (now (out .entry)) 0 (offsetsFrom (tlasScratch (ofPackages (now (tlases .entry)) (now (packages .entry)) [])) alignment 0 0 (packagesIn (now (packages .entry)))) ⌝ }
+    ensures { λ _. ⌜
+        now (out .exit) ≡ sets (now (out .entry)) 0 (tlasOffsets alignment (now (tlases .entry)) (now (packages .entry)))
+        ⌝ }
 {
     let mut tlas_total: u64 = 0;
     let mut p = 0;
-    while p < packages.len() / 4 {
+    while p < packages.len() / PACKAGE_SIZE {
         out[p] = tlas_total;
         let tlas = tlas_of_package(tlases, packages, p);
         tlas_total = add_rounded(tlas_total, tlas.build_scratch_size, alignment as u64);
@@ -68,11 +67,13 @@ fn put_compactable(blases: &[u8], entries: &[u8], i: usize, out: &mut [u16], at:
     requires { ⌜ (i < entriesIn (now entries)) × EntriesNamed (now blases) (now entries) ⌝ }
     requires { ⌜ at + length (compactableOf (ofEntries (now blases) (now entries)) i) ≤ length (now out) ⌝ }
     ensures { λ r. ⌜ r ≡ at + length (compactableOf (ofEntries (now (blases .entry)) (now (entries .entry))) i) ⌝ }
-    ensures { λ _. ⌜ now (out .exit) ≡ sets (now (out .entry)) at (compactableOf (ofEntries (now (blases .entry)) (now (entries .entry))) i) ⌝ }
+    ensures { λ _. ⌜
+        now (out .exit) ≡ sets (now (out .entry)) at (compactableOf (ofEntries (now (blases .entry)) (now (entries .entry))) i)
+        ⌝ }
 {
     let blas = blas_of_entry(blases, entries, i);
     if blas.flags / 4 % 2 == 1 {
-        out[at] = entry_at(entries, i * 5).blas.0;
+        out[at] = entry_at(entries, i * ENTRY_SIZE).blas.0;
         return at + 1;
     }
     at
@@ -80,111 +81,29 @@ fn put_compactable(blases: &[u8], entries: &[u8], i: usize, out: &mut [u16], at:
 
 fn write_compactable(blases: &[u8], entries: &[u8], out: &mut [u16])
     requires { ⌜ EntriesNamed (now blases) (now entries) ⌝ }
-    requires { ⌜ length (compactableFrom (ofEntries (now blases) (now entries)) 0 (entriesIn (now entries))) ≤ length (now out) ⌝ }
-    ensures { λ _. ⌜ now (out .exit) ≡ sets (now (out .entry)) 0 (compactableFrom (ofEntries (now (blases .entry)) (now (entries .entry))) 0 (entriesIn (now (entries .entry)))) ⌝ }
+    requires { ⌜ length (compactableIn (now blases) (now entries)) ≤ length (now out) ⌝ }
+    ensures { λ _. ⌜ now (out .exit) ≡ sets (now (out .entry)) 0 (compactableIn (now (blases .entry)) (now (entries .entry))) ⌝ }
 {
     let mut at = 0;
     let mut i = 0;
-    while i < entries.len() / 5 {
+    while i < entries.len() / ENTRY_SIZE {
         at = put_compactable(blases, entries, i, out, at);
         i += 1;
     }
 }
 
-fn write_entry_blases(entries: &[u8], out: &mut [u16])
-    requires { ⌜ entriesIn (now entries) ≤ length (now out) ⌝ }
-    ensures { λ _. ⌜ now (out .exit) ≡ sets (now (out .entry)) 0 (entryBlases (ofEntries [] (now (entries .entry))) 0 (entriesIn (now (entries .entry)))) ⌝ }
-{
-    let mut i = 0;
-    while i < entries.len() / 5 {
-        out[i] = entry_at(entries, i * 5).blas.0;
-        i += 1;
-    }
-}
-
-// The Blas of slot s, if it is present, from index at on; the index past it.
-fn put_dependency(slots: &[u8], s: usize, out: &mut [u16], at: usize) -> usize
-    requires { ⌜ (s < slotsIn (now slots)) × (at + length (dependencyOf (now slots) s) ≤ length (now out)) ⌝ }
-    ensures { λ r. ⌜ r ≡ at + length (dependencyOf (now (slots .entry)) s) ⌝ }
-    ensures { λ _. ⌜ now (out .exit) ≡ sets (now (out .entry)) at (dependencyOf (now (slots .entry)) s) ⌝ }
-{
-    if u8_at(slots, s * 56) == 0 {
-        return at;
-    }
-    out[at] = u16_at(slots, s * 56 + 1);
-    at + 1
-}
-
-fn write_dependencies(slots: &[u8], first: usize, count: usize, out: &mut [u16], at: usize) -> usize
-    requires { ⌜ (first + count ≤ slotsIn (now slots)) × (at + length (dependenciesFrom (now slots) first count) ≤ length (now out)) ⌝ }
-    ensures { λ r. ⌜ r ≡ at + length (dependenciesFrom (now (slots .entry)) first count) ⌝ }
-    ensures { λ _. ⌜ now (out .exit) ≡ sets (now (out .entry)) at (dependenciesFrom (now (slots .entry)) first count) ⌝ }
-{
-    let mut end = at;
-    let mut s = first;
-    while s < first + count {
-        end = put_dependency(slots, s, out, end);
-        s += 1;
-    }
-    end
-}
-
-// Package p's list, whose slots stand from s on, from index at on: its Tlas, how many Blases it lists, and those. The index past it.
-fn put_package(
-    packages: &[u8],
-    slots: &[u8],
-    p: usize,
-    s: usize,
-    out: &mut [u16],
-    at: usize,
-) -> usize
-    requires { ⌜ (p < packagesIn (now packages)) × (s + slotCount (ofPackages [] (now packages) (now slots)) p ≤ slotsIn (now slots)) × (slotsIn (now slots) ≤ 512) ⌝ }
-    requires { ⌜ at + length (packageList (ofPackages [] (now packages) (now slots)) p s) ≤ length (now out) ⌝ }
-    ensures { λ r. ⌜ r ≡ at + length (packageList (ofPackages [] (now (packages .entry)) (now (slots .entry))) p s) ⌝ }
-    ensures { λ _. ⌜ now (out .exit) ≡ sets (now (out .entry)) at (packageList (ofPackages [] (now (packages .entry)) (now (slots .entry))) p s) ⌝ }
-{
-    let count = slot_count_of(packages, p);
-    out[at] = package_at(packages, p * 4).tlas.0;
-    out[at + 1] = present_of(slots, s, count) as u16;
-    write_dependencies(slots, s, count, out, at + 2)
-}
-
-fn write_packages(packages: &[u8], slots: &[u8], out: &mut [u16], at: usize)
-    requires { ⌜ Drawn (now packages) (now slots) ⌝ }
-    requires { ⌜ at + length (packageLists (ofPackages [] (now packages) (now slots)) 0 0 (packagesIn (now packages))) ≤ length (now out) ⌝ }
-    ensures { λ _. ⌜ now (out .exit) ≡ sets (now (out .entry)) at (packageLists (ofPackages [] (now (packages .entry)) (now (slots .entry))) 0 0 (packagesIn (now (packages .entry)))) ⌝ }
-{
-    let mut end = at;
-    let mut s: usize = 0;
-    let mut p: usize = 0;
-    while p < packages.len() / 4 {
-        end = put_package(packages, slots, p, s, out, end);
-        s += slot_count_of(packages, p);
-        p += 1;
-    }
-}
-
-// The recorded action, a Build: the entries' Blases, then the packages' lists.
-fn write_lists(entries: &[u8], packages: &[u8], slots: &[u8], out: &mut [u16])
-    requires { ⌜ Drawn (now packages) (now slots) ⌝ }
-    requires { ⌜ entriesIn (now entries) + length (packageLists (ofPackages [] (now packages) (now slots)) 0 0 (packagesIn (now packages))) ≤ length (now out) ⌝ }
-    ensures { λ _. ⌜ now (out .exit) ≡ sets (now (out .entry)) 0 (entryBlases (ofEntries [] (now (entries .entry))) 0 (entriesIn (now (entries .entry))) ++ packageLists (ofPackages [] (now (packages .entry)) (now (slots .entry))) 0 0 (packagesIn (now (packages .entry)))) ⌝ }
-{
-    write_entry_blases(entries, out);
-    write_packages(packages, slots, out, entries.len() / 5)
-}
-
 // Start and end of each package's bytes: 64 for each present slot, without gap.
 fn write_staging_ranges(packages: &[u8], slots: &[u8], out: &mut [u64])
     requires { ⌜ Drawn (now packages) (now slots) × (2 * packagesIn (now packages) ≤ length (now out)) ⌝ }
-    ensures { λ _. ⌜ now (out .exit) ≡ sets (now (out .entry)) 0 (stagingFrom (ofPackages [] (now (packages .entry)) (now (slots .entry))) 0 0 0 (packagesIn (now (packages .entry)))) ⌝ }
+    ensures { λ _. ⌜ now (out .exit) ≡ sets (now (out .entry)) 0 (stagingIn (now (packages .entry)) (now (slots .entry))) ⌝ }
 {
     let mut start: u64 = 0;
     let mut s: usize = 0;
     let mut p: usize = 0;
-    while p < packages.len() / 4 {
-        let count = slot_count_of(packages, p);
-        let end = start + 64 * (present_of(slots, s, count) as u64);
+    while p < packages.len() / PACKAGE_SIZE {
+        let count = slot_count(packages, p);
+        let bytes = INSTANCE_SIZE * present_of(slots, s, count);
+        let end = start + bytes as u64;
         out[2 * p] = start;
         out[2 * p + 1] = end;
         start = end;
@@ -194,10 +113,10 @@ fn write_staging_ranges(packages: &[u8], slots: &[u8], out: &mut [u64])
 }
 
 fn write_instances(blases: &[u8], slots: &[u8], out: &mut [u8])
-    requires { ⌜ AllWritable (now blases) (now slots) × (64 * presentOf (now slots) 0 (slotsIn (now slots)) ≤ length (now out)) ⌝ }
-    ensures { λ _. ⌜ now (out .exit) ≡ sets (now (out .entry)) 0 (slotsBytes (now (blases .entry)) (now (slots .entry)) 0 (slotsIn (now (slots .entry)))) ⌝ }
+    requires { ⌜ AllWritable (now blases) (now slots) × (length (instancesIn (now blases) (now slots)) ≤ length (now out)) ⌝ }
+    ensures { λ _. ⌜ now (out .exit) ≡ sets (now (out .entry)) 0 (instancesIn (now (blases .entry)) (now (slots .entry))) ⌝ }
 {
-    put_slots(blases, slots, 0, slots.len() / 56, out, 0);
+    put_slots(blases, slots, 0, slots.len() / SLOT_SIZE, out, 0);
 }
 
 fn compactable_cells(blases: &[u8], entries: &[u8], i: usize) -> usize
@@ -210,11 +129,11 @@ fn compactable_cells(blases: &[u8], entries: &[u8], i: usize) -> usize
 
 fn count_compactable(blases: &[u8], entries: &[u8]) -> usize
     requires { ⌜ EntriesNamed (now blases) (now entries) ⌝ }
-    ensures { λ r. ⌜ r ≡ length (compactableFrom (ofEntries (now (blases .entry)) (now (entries .entry))) 0 (entriesIn (now (entries .entry)))) ⌝ }
+    ensures { λ r. ⌜ r ≡ length (compactableIn (now (blases .entry)) (now (entries .entry))) ⌝ }
 {
     let mut n: usize = 0;
     let mut i: usize = 0;
-    while i < entries.len() / 5 {
+    while i < entries.len() / ENTRY_SIZE {
         n = n + compactable_cells(blases, entries, i);
         i += 1;
     }
@@ -229,19 +148,32 @@ pub fn counts(
     packages: &[u8],
     slots: &[u8],
 ) -> Written
-    requires { ⌜ EntriesNamed (now blases) (now entries) × DrawnFit (now entries) (now geometries) × Drawn (now packages) (now slots) ⌝ }
-    ensures { λ r. ⌜ r ≡ countsOf (planned 0 (now (blases .entry)) [] (now (entries .entry)) (now (geometries .entry)) (now (packages .entry)) (now (slots .entry))) ⌝ }
+    requires { ⌜
+        EntriesNamed (now blases) (now entries) × DrawnFit (now entries) (now geometries) × Drawn (now packages) (now slots)
+        ⌝ }
+    ensures { λ r. ⌜
+        r
+        ≡ countsOf
+        (planned
+        0
+        (now (blases .entry))
+        []
+        (now (entries .entry))
+        (now (geometries .entry))
+        (now (packages .entry))
+        (now (slots .entry)))
+        ⌝ }
 {
-    let blas_offsets = entries.len() / 5;
-    let tlas_offsets = packages.len() / 4;
-    let present = present_of(slots, 0, slots.len() / 56);
+    let blas_offsets = entries.len() / ENTRY_SIZE;
+    let tlas_offsets = packages.len() / PACKAGE_SIZE;
+    let present = present_of(slots, 0, slots.len() / SLOT_SIZE);
     let init_ranges = count_ranges(entries, geometries);
     let compactable = count_compactable(blases, entries);
     Written {
         blas_offsets,
         tlas_offsets,
         staging_ranges: 2 * tlas_offsets,
-        instances: 64 * present,
+        instances: INSTANCE_SIZE * present,
         init_ranges,
         compactable,
         lists: blas_offsets + 2 * tlas_offsets + present,
@@ -265,11 +197,48 @@ pub fn write_plan(
     compactable: &mut [u16],
     lists: &mut [u16],
 )
-    requires { ⌜ Plannable alignment (now blases) (now tlases) (now entries) (now geometries) (now packages) (now slots) ⌝ }
-    requires { ⌜ PlanRoom (planned alignment (now blases) (now tlases) (now entries) (now geometries) (now packages) (now slots)) (outputsOf (now «blas_offsets») (now «tlas_offsets») (now «staging_ranges») (now instances) (now «init_ranges») (now compactable) (now lists)) ⌝ }
-    ensures { λ _. ⌜ outputsOf (now («blas_offsets» .exit)) (now («tlas_offsets» .exit)) (now («staging_ranges» .exit)) (now (instances .exit)) (now («init_ranges» .exit)) (now (compactable .exit)) (now (lists .exit))
-        ≡ written (planned alignment (now (blases .entry)) (now (tlases .entry)) (now (entries .entry)) (now (geometries .entry)) (now (packages .entry)) (now (slots .entry)))
-        (outputsOf (now («blas_offsets» .entry)) (now («tlas_offsets» .entry)) (now («staging_ranges» .entry)) (now (instances .entry)) (now («init_ranges» .entry)) (now (compactable .entry)) (now (lists .entry))) ⌝ }
+    requires { ⌜
+        Plannable alignment (now blases) (now tlases) (now entries) (now geometries) (now packages) (now slots)
+        ⌝ }
+    requires { ⌜
+        PlanRoom
+        (planned alignment (now blases) (now tlases) (now entries) (now geometries) (now packages) (now slots))
+        (outputsOf
+        (now «blas_offsets»)
+        (now «tlas_offsets»)
+        (now «staging_ranges»)
+        (now instances)
+        (now «init_ranges»)
+        (now compactable)
+        (now lists))
+        ⌝ }
+    ensures { λ _. ⌜
+        outputsOf
+        (now («blas_offsets» .exit))
+        (now («tlas_offsets» .exit))
+        (now («staging_ranges» .exit))
+        (now (instances .exit))
+        (now («init_ranges» .exit))
+        (now (compactable .exit))
+        (now (lists .exit))
+        ≡ written
+        (planned
+        alignment
+        (now (blases .entry))
+        (now (tlases .entry))
+        (now (entries .entry))
+        (now (geometries .entry))
+        (now (packages .entry))
+        (now (slots .entry)))
+        (outputsOf
+        (now («blas_offsets» .entry))
+        (now («tlas_offsets» .entry))
+        (now («staging_ranges» .entry))
+        (now (instances .entry))
+        (now («init_ranges» .entry))
+        (now (compactable .entry))
+        (now (lists .entry)))
+        ⌝ }
 {
     write_blas_offsets(alignment, blases, entries, blas_offsets);
     write_tlas_offsets(alignment, tlases, packages, tlas_offsets);

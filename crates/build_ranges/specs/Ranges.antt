@@ -6,7 +6,7 @@ use mathlib.Core.List.{List, [], _++_}
 use lib.ListN.{length}
 use lib.Dec.{eqb}
 use Rattle.ray_tracing.specs.declared.BlasGeometry.{BlasGeometry}
-use Rattle.ray_tracing.specs.Layout.{size}
+use Rattle.ray_tracing.specs.Layout.{layout, size}
 use Rattle.ray_tracing.specs.Records.{entryAt, geometryAt}
 use Rattle.ray_tracing.specs.Checks.{range}
 use Rattle.ray_tracing.specs.Triangles.{indexWidth}
@@ -25,7 +25,10 @@ abbrev pub indexRange : ℕ → BlasGeometry → List ℕ
 indexRange kind g =
     cond (eqb kind 0)
     (cond (eqb (g .«index_buffer» .0) 65535) []
-    (range (g .«index_buffer» .0) (g .«first_index» * indexWidth (g .«index_format»)) (g .«index_count» * indexWidth (g .«index_format»))))
+    (range
+    (g .«index_buffer» .0)
+    (g .«first_index» * indexWidth (g .«index_format»))
+    (g .«index_count» * indexWidth (g .«index_format»))))
     []
 
 abbrev pub transformRange : ℕ → BlasGeometry → List ℕ
@@ -40,7 +43,8 @@ geometryRanges kind g = dataRange kind g ++ (indexRange kind g ++ transformRange
 -- of n geometries from geometry g on, of one kind
 unfoldable pub entryRanges : List ℕ → ℕ → ℕ → ℕ → List ℕ
 entryRanges geometries kind g zero = []
-entryRanges geometries kind g (suc n) = geometryRanges kind (geometryAt geometries (g * size 6)) ++ entryRanges geometries kind (g + 1) n
+entryRanges geometries kind g (suc n) =
+    geometryRanges kind (geometryAt geometries (g * size 6)) ++ entryRanges geometries kind (g + 1) n
 
 -- of n entries from entry i on, whose geometries stand from g on
 unfoldable pub allRanges : List ℕ → List ℕ → ℕ → ℕ → ℕ → List ℕ
@@ -48,6 +52,10 @@ allRanges entries geometries i g zero = []
 allRanges entries geometries i g (suc n) =
     entryRanges geometries (entryAt entries (i * size 5) .kind) g (entryAt entries (i * size 5) .«geometry_count»)
     ++ allRanges entries geometries (i + 1) (g + entryAt entries (i * size 5) .«geometry_count») n
+
+-- of all entries
+abbrev pub rangesIn : List ℕ → List ℕ → List ℕ
+rangesIn entries geometries = allRanges entries geometries 0 0 (entriesIn entries)
 
 -- the ends of a geometry's ranges are u64s
 pub record RangesFit (kind : ℕ) (g : BlasGeometry) : Type 0 where
@@ -68,8 +76,12 @@ pub record DrawnFit (entries geometries : List ℕ) : Type 0 where
       (i : ℕ)
       → i < entriesIn entries
       → drawnBefore (ofEntries [] entries) i + geometryCount (ofEntries [] entries) i ≤ geometriesIn geometries
-  pub most : geometriesIn geometries ≤ 256
+  pub most : geometriesIn geometries ≤ layout 6 .most
   pub fit :
       (i : ℕ)
       → i < entriesIn entries
-      → AllFit geometries (entryAt entries (i * size 5) .kind) (drawnBefore (ofEntries [] entries) i) (geometryCount (ofEntries [] entries) i)
+      → AllFit
+      geometries
+      (entryAt entries (i * size 5) .kind)
+      (drawnBefore (ofEntries [] entries) i)
+      (geometryCount (ofEntries [] entries) i)

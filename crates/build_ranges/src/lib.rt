@@ -2,9 +2,14 @@
 use ray_tracing::Asked;
 use ray_tracing::BlasGeometry;
 use ray_tracing::BufferId;
+use ray_tracing::ENTRY_SIZE;
+use ray_tracing::GEOMETRY_SIZE;
+use ray_tracing::NO_BUFFER;
 use ray_tracing::Range;
+use records::TRANSFORM_SIZE;
 use records::entry_at;
 use records::geometry_at;
+use records::index_width;
 ghost use mathlib.Core.Path.{_≡_};
 ghost use mathlib.Core.Bool.{cond};
 ghost use lib.Dec.{eqb};
@@ -12,9 +17,11 @@ ghost use Prim.Native.Nat.{_+_, _*_, _/_, _≤_, _<_};
 ghost use lib.ListN.{length};
 ghost use lib.Seq.{sets};
 ghost use Rattle.ray_tracing.specs.Code.{askedOf, rangeOf};
-ghost use Rattle.ray_tracing.specs.Triangles.{indexWidth};
-ghost use Rattle.ray_tracing.specs.Parts.{entriesIn};
-ghost use Rattle.build_ranges.specs.Ranges.{dataRange, indexRange, transformRange, geometryRanges, entryRanges, allRanges, RangesFit, AllFit, geometriesIn, DrawnFit};
+ghost use Rattle.build_ranges.specs.Ranges.{dataRange, indexRange, transformRange, geometryRanges, entryRanges, rangesIn};
+ghost use Rattle.build_ranges.specs.Ranges.{RangesFit, AllFit, geometriesIn, DrawnFit};
+
+// The cells of a range: buffer, start, end.
+const RANGE_CELLS: usize = 3;
 
 // Vertices, or boxes.
 fn data_range(kind: u8, g: BlasGeometry) -> Range
@@ -33,13 +40,6 @@ fn data_range(kind: u8, g: BlasGeometry) -> Range
     Range { buffer, start, end }
 }
 
-// A two-byte index, or one of four.
-fn index_width(format: u8) -> u64
-    ensures { λ r. ⌜ (r ≡ indexWidth format) × (r ≤ 4) ⌝ }
-{
-    if format == 1 { 2 } else { 4 }
-}
-
 fn index_range(kind: u8, g: BlasGeometry) -> Asked
     ensures { λ r. ⌜ askedOf r ≡ indexRange kind g ⌝ }
 {
@@ -47,7 +47,7 @@ fn index_range(kind: u8, g: BlasGeometry) -> Asked
         return Asked::Nothing;
     }
     let buffer = g.index_buffer;
-    if buffer.0 == 65535 {
+    if buffer.0 == NO_BUFFER {
         return Asked::Nothing;
     }
     let width = index_width(g.index_format);
@@ -64,15 +64,15 @@ fn transform_range(kind: u8, g: BlasGeometry) -> Asked
         return Asked::Nothing;
     }
     let buffer = g.transform_buffer;
-    if buffer.0 == 65535 {
+    if buffer.0 == NO_BUFFER {
         return Asked::Nothing;
     }
     let start = g.transform_buffer_offset;
-    let end = start + 48;
+    let end = start + TRANSFORM_SIZE;
     Asked::Of(Range { buffer, start, end })
 }
 
-// Three cells: buffer, start, end.
+// Buffer, start, end.
 fn put_range(out: &mut [u64], at: usize, range: Range)
     requires { ⌜ at + 3 ≤ length (now out) ⌝ }
     ensures { λ _. ⌜ now (out .exit) ≡ sets (now (out .entry)) at (rangeOf range) ⌝ }
@@ -91,7 +91,7 @@ fn put_asked(out: &mut [u64], at: usize, asked: Asked) -> usize
         Asked::Nothing => at,
         Asked::Of(range) => {
             put_range(out, at, range);
-            at + 3
+            at + RANGE_CELLS
         }
     }
 }
@@ -106,7 +106,7 @@ fn put_geometry(kind: u8, g: BlasGeometry, out: &mut [u64], at: usize) -> usize
     let index = index_range(kind, g);
     let transform = transform_range(kind, g);
     put_range(out, at, data);
-    let end = put_asked(out, at + 3, index);
+    let end = put_asked(out, at + RANGE_CELLS, index);
     put_asked(out, end, transform)
 }
 
@@ -121,12 +121,14 @@ fn write_entry_ranges(
     requires { ⌜ (first + count ≤ geometriesIn (now geometries)) × AllFit (now geometries) kind first count ⌝ }
     requires { ⌜ at + length (entryRanges (now geometries) kind first count) ≤ length (now out) ⌝ }
     ensures { λ r. ⌜ r ≡ at + length (entryRanges (now (geometries .entry)) kind first count) ⌝ }
-    ensures { λ _. ⌜ now (out .exit) ≡ sets (now (out .entry)) at (entryRanges (now (geometries .entry)) kind first count) ⌝ }
+    ensures { λ _. ⌜
+        now (out .exit) ≡ sets (now (out .entry)) at (entryRanges (now (geometries .entry)) kind first count)
+        ⌝ }
 {
     let mut end = at;
     let mut g = first;
     while g < first + count {
-        let geometry = geometry_at(geometries, g * 44);
+        let geometry = geometry_at(geometries, g * GEOMETRY_SIZE);
         end = put_geometry(kind, geometry, out, end);
         g += 1;
     }
@@ -135,14 +137,14 @@ fn write_entry_ranges(
 
 pub fn write_init_ranges(entries: &[u8], geometries: &[u8], out: &mut [u64])
     requires { ⌜ DrawnFit (now entries) (now geometries) ⌝ }
-    requires { ⌜ length (allRanges (now entries) (now geometries) 0 0 (entriesIn (now entries))) ≤ length (now out) ⌝ }
-    ensures { λ _. ⌜ now (out .exit) ≡ sets (now (out .entry)) 0 (allRanges (now (entries .entry)) (now (geometries .entry)) 0 0 (entriesIn (now (entries .entry)))) ⌝ }
+    requires { ⌜ length (rangesIn (now entries) (now geometries)) ≤ length (now out) ⌝ }
+    ensures { λ _. ⌜ now (out .exit) ≡ sets (now (out .entry)) 0 (rangesIn (now (entries .entry)) (now (geometries .entry))) ⌝ }
 {
     let mut at: usize = 0;
     let mut g: usize = 0;
     let mut i: usize = 0;
-    while i < entries.len() / 5 {
-        let entry = entry_at(entries, i * 5);
+    while i < entries.len() / ENTRY_SIZE {
+        let entry = entry_at(entries, i * ENTRY_SIZE);
         let count = entry.geometry_count as usize;
         at = write_entry_ranges(geometries, entry.kind, g, count, out, at);
         g += count;
@@ -153,7 +155,11 @@ pub fn write_init_ranges(entries: &[u8], geometries: &[u8], out: &mut [u64])
 fn buffer_cells(buffer: BufferId) -> usize
     ensures { λ r. ⌜ (r ≡ cond (eqb (buffer .0) 65535) 0 3) × (r ≤ 3) ⌝ }
 {
-    if buffer.0 == 65535 { 0 } else { 3 }
+    if buffer.0 == NO_BUFFER {
+        0
+    } else {
+        RANGE_CELLS
+    }
 }
 
 // How many cells a geometry's ranges take.
@@ -161,9 +167,9 @@ fn geometry_cells(kind: u8, g: BlasGeometry) -> usize
     ensures { λ r. ⌜ (r ≡ length (geometryRanges kind g)) × (r ≤ 9) ⌝ }
 {
     if kind != 0 {
-        return 3;
+        return RANGE_CELLS;
     }
-    3 + buffer_cells(g.index_buffer) + buffer_cells(g.transform_buffer)
+    RANGE_CELLS + buffer_cells(g.index_buffer) + buffer_cells(g.transform_buffer)
 }
 
 fn count_entry_ranges(geometries: &[u8], kind: u8, first: usize, count: usize) -> usize
@@ -173,7 +179,7 @@ fn count_entry_ranges(geometries: &[u8], kind: u8, first: usize, count: usize) -
     let mut n: usize = 0;
     let mut g = first;
     while g < first + count {
-        let geometry = geometry_at(geometries, g * 44);
+        let geometry = geometry_at(geometries, g * GEOMETRY_SIZE);
         n = n + geometry_cells(kind, geometry);
         g += 1;
     }
@@ -182,13 +188,13 @@ fn count_entry_ranges(geometries: &[u8], kind: u8, first: usize, count: usize) -
 
 pub fn count_ranges(entries: &[u8], geometries: &[u8]) -> usize
     requires { ⌜ DrawnFit (now entries) (now geometries) ⌝ }
-    ensures { λ r. ⌜ r ≡ length (allRanges (now (entries .entry)) (now (geometries .entry)) 0 0 (entriesIn (now (entries .entry)))) ⌝ }
+    ensures { λ r. ⌜ r ≡ length (rangesIn (now (entries .entry)) (now (geometries .entry))) ⌝ }
 {
     let mut n: usize = 0;
     let mut g: usize = 0;
     let mut i: usize = 0;
-    while i < entries.len() / 5 {
-        let entry = entry_at(entries, i * 5);
+    while i < entries.len() / ENTRY_SIZE {
+        let entry = entry_at(entries, i * ENTRY_SIZE);
         let count = entry.geometry_count as usize;
         n = n + count_entry_ranges(geometries, entry.kind, g, count);
         g += count;

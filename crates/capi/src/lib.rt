@@ -6,7 +6,7 @@ use capi_answers::report_answer;
 use capi_answers::sheet_answer;
 use explain::explain;
 use instance::append_instance;
-use instance::instance_from;
+use instance_bytes::instance_from;
 use ray_tracing::AppendAnswer;
 use ray_tracing::BuildAnswer;
 use ray_tracing::CommandIndices;

@@ -5,7 +5,7 @@ use ray_tracing::SheetError;
 use ray_tracing::ValidateAsActionsError;
 ghost use mathlib.Core.Path.{_≡_};
 ghost use Rattle.ray_tracing.specs.Causes.{sheetNumber, sorted, cause, buildCause, submissionCause};
-ghost use Rattle.causes.specs.Figures.{causeOf};
+ghost use Rattle.causes.specs.Figures.{causeOf, plainly};
 
 // A cause's number and its figures; those that a refusal lacks are 0.
 pub struct Figures {
@@ -138,7 +138,7 @@ fn ids(number: u64, first: u16, second: u16) -> Figures
 }
 
 pub fn submission_figures(e: ValidateAsActionsError) -> Figures
-    ensures { λ r. ⌜ causeOf r ≡ submissionCause e ⌝ }
+    ensures { λ r. ⌜ causeOf r ≡ plainly (submissionCause e) ⌝ }
 {
     match e {
         ValidateAsActionsError::TooMany => ids(4, 0, 0),

@@ -1,10 +1,16 @@
-// Instances of a Tlas: read from a slot's fields, judged, and written as the 64 bytes of VkAccelerationStructureInstanceKHR.
+// Instances of a Tlas: judged, appended one by one, and those of a build's slots.
+use instance_bytes::instance_from;
+use instance_bytes::put_instance;
 use ray_tracing::Appended;
+use ray_tracing::BLAS_SIZE;
 use ray_tracing::Blas;
 use ray_tracing::BlasId;
-use ray_tracing::BuildAccelerationStructureError;
+use ray_tracing::BuildAccelerationStructureError as Error;
 use ray_tracing::CheckedInstance;
+use ray_tracing::INSTANCE_SIZE;
 use ray_tracing::Mentioned;
+use ray_tracing::SLOT_SIZE;
+use ray_tracing::TLAS_SIZE;
 use ray_tracing::Tlas;
 use ray_tracing::TlasId;
 use ray_tracing::TlasInstance;
@@ -12,121 +18,34 @@ use records::blas_at;
 use records::blas_mention;
 use records::tlas_at;
 use records::tlas_mention;
-use wire::put_u32;
-use wire::put_u64;
 use wire::u8_at;
 use wire::u16_at;
 use wire::u32_at;
 use wire::u64_at;
 ghost use mathlib.Core.Path.{_≡_};
 ghost use mathlib.Core.Bool.{cond};
-ghost use Prim.Native.Nat.{ℕ, _+_, _*_, _/_, _^_, _≤_, _<_};
+ghost use Prim.Native.Nat.{ℕ, _+_, _*_, _/_, _≤_, _<_};
 ghost use lib.ListN.{length};
 ghost use lib.Seq.{sets};
-ghost use lib.Ieee.{binary32, ofBits, nanBits};
+ghost use Rattle.ray_tracing.specs.Layout.{size};
 ghost use Rattle.ray_tracing.specs.Records.{fieldAt};
 ghost use Rattle.ray_tracing.specs.Causes.{bare};
 ghost use Rattle.ray_tracing.specs.Mentions.{blasOf};
 ghost use Rattle.ray_tracing.specs.Code.{mentionOf, instanceCause};
-ghost use Rattle.ray_tracing.specs.Instances.{nanOf, bitsOf, patterns, words, tailBytes, instanceBytes, instanceFrom, presentAt, slotBytes, slotsBytes, presentOf, returnsVertices, instanceRule, namedInstanceRule, namedTlasRule, slotMention, slotRule, appendedOf, Appends};
+ghost use Rattle.ray_tracing.specs.Instances.{returnsVertices, instanceRule, namedInstanceRule, namedTlasRule, appendedOf, Appends};
+ghost use Rattle.ray_tracing.specs.Instances.{presentAt, presentOf, slotMention, slotRule, slotBytes, slotsBytes};
 ghost use Rattle.instance.specs.Writable.{Writable};
 
-// A number, and the pattern that it was read from where that is a NaN's, else 0.
-pub struct Number {
-    pub value: f32,
-    pub nan_bits: u32,
-}
+// Custom data from here on is 34.
+const CUSTOM_LIMIT: u32 = 16777216;
 
-// Whether bits is a NaN's pattern: without its sign it is above an infinity's.
-fn is_nan_bits(bits: u32) -> bool
-    ensures { λ r. ⌜ r ≡ nanBits binary32 bits ⌝ }
-{
-    0x7f80_0000 < bits % 0x8000_0000
-}
+// Where a Blas's handle stands.
+const HANDLE: usize = 12;
 
-fn number_of_bits(bits: u32) -> Number
-    ensures { λ r. ⌜ (r .value ≡ ofBits binary32 bits) × (r .«nan_bits» ≡ nanOf bits) ⌝ }
-{
-    if is_nan_bits(bits) {
-        Number {
-            value: 0.0 / 0.0,
-            nan_bits: bits,
-        }
-    } else {
-        Number {
-            value: f32::from_bits(bits),
-            nan_bits: 0,
-        }
-    }
-}
+// Where a slot's Blas and custom data stand.
+const SLOT_BLAS: usize = 1;
 
-fn bits_of_number(value: f32, nan_bits: u32) -> u32
-    ensures { λ r. ⌜ r ≡ bitsOf value «nan_bits» ⌝ }
-{
-    if value != value {
-        if is_nan_bits(nan_bits) {
-            nan_bits
-        } else {
-            0x7fc0_0000
-        }
-    } else {
-        f32::to_bits(value)
-    }
-}
-
-// The instance whose Blas field is at a place: a slot's fields after its present byte.
-pub fn instance_from(s: &[u8], at: usize) -> TlasInstance
-    requires { ⌜ at + 55 ≤ length (now s) ⌝ }
-    ensures { λ r. ⌜ r ≡ instanceFrom (now (s .entry)) at ⌝ }
-{
-    let mut transform = [0.0f32; 12];
-    let mut nan_bits = [0u32; 12];
-    let mut k = 0;
-    while k < 12 {
-        let n = number_of_bits(u32_at(s, at + 7 + 4 * k));
-        transform[k] = n.value;
-        nan_bits[k] = n.nan_bits;
-        k += 1;
-    }
-    TlasInstance {
-        transform,
-        nan_bits,
-        custom_data: u32_at(s, at + 2),
-        mask: u8_at(s, at + 6),
-        blas: BlasId(u16_at(s, at)),
-    }
-}
-
-fn put_transform(out: &mut [u8], at: usize, transform: [f32; 12], nan_bits: [u32; 12])
-    requires { ⌜ at + 48 ≤ length (now out) ⌝ }
-    ensures { λ _. ⌜ now (out .exit) ≡ sets (now (out .entry)) at (words (patterns transform «nan_bits»)) ⌝ }
-{
-    let mut k = 0;
-    while k < 12 {
-        put_u32(out, at + 4 * k, bits_of_number(transform[k], nan_bits[k]));
-        k += 1;
-    }
-}
-
-// The 16 bytes after the transform.
-fn put_tail(out: &mut [u8], at: usize, custom_data: u32, mask: u8, address: u64)
-    requires { ⌜ (at + 16 ≤ length (now out)) × («custom_data» < 2 ^ 24) ⌝ }
-    ensures { λ _. ⌜ now (out .exit) ≡ sets (now (out .entry)) at (tailBytes «custom_data» mask address) ⌝ }
-{
-    put_u32(out, at, custom_data + 16777216 * (mask as u32));
-    put_u32(out, at + 4, 0);
-    put_u64(out, at + 8, address);
-}
-
-fn put_instance(out: &mut [u8], at: usize, instance: TlasInstance, address: u64)
-    requires { ⌜ (at + 64 ≤ length (now out)) × (instance .«custom_data» < 2 ^ 24) ⌝ }
-    ensures { λ _. ⌜ now (out .exit) ≡ sets (now (out .entry)) at (instanceBytes instance address) ⌝ }
-{
-    let transform = instance.transform;
-    let nan_bits = instance.nan_bits;
-    put_transform(out, at, transform, nan_bits);
-    put_tail(out, at + 48, instance.custom_data, instance.mask, address);
-}
+const SLOT_CUSTOM_DATA: usize = 3;
 
 fn returns_vertices(flags: u8) -> bool
     ensures { λ r. ⌜ r ≡ returnsVertices flags ⌝ }
@@ -138,16 +57,14 @@ fn returns_vertices(flags: u8) -> bool
 fn check_instance(tlas: Tlas, blas: Blas, custom_data: u32) -> CheckedInstance
     ensures { λ r. ⌜ instanceCause r ≡ bare (instanceRule tlas blas «custom_data») ⌝ }
 {
-    if 16777216 <= custom_data {
-        return CheckedInstance::Refused(BuildAccelerationStructureError::TlasInvalidCustomIndex);
+    if CUSTOM_LIMIT <= custom_data {
+        return CheckedInstance::Refused(Error::TlasInvalidCustomIndex);
     }
     if returns_vertices(tlas.flags) {
         if returns_vertices(blas.flags) {
             return CheckedInstance::Fine;
         }
-        return CheckedInstance::Refused(
-            BuildAccelerationStructureError::TlasDependentMissingVertexReturn,
-        );
+        return CheckedInstance::Refused(Error::TlasDependentMissingVertexReturn);
     }
     CheckedInstance::Fine
 }
@@ -160,10 +77,12 @@ fn check_named_instance(tlas: Tlas, blases: &[u8], instance: TlasInstance) -> Ch
     let id = blas.0 as usize;
     let mentioned = blas_mention(blases, id);
     match mentioned {
-        Mentioned::InvalidResource => {
-            CheckedInstance::Refused(BuildAccelerationStructureError::InvalidResource)
-        }
-        Mentioned::Inside => check_instance(tlas, blas_at(blases, id * 28), instance.custom_data),
+        Mentioned::InvalidResource => { CheckedInstance::Refused(Error::InvalidResource) }
+        Mentioned::Inside => check_instance(
+            tlas,
+            blas_at(blases, id * BLAS_SIZE),
+            instance.custom_data,
+        ),
     }
 }
 
@@ -179,18 +98,20 @@ fn check_named_tlas(
     let id = tlas.0 as usize;
     let mentioned = tlas_mention(tlases, id);
     match mentioned {
-        Mentioned::InvalidResource => {
-            CheckedInstance::Refused(BuildAccelerationStructureError::InvalidResource)
-        }
-        Mentioned::Inside => check_named_instance(tlas_at(tlases, id * 22), blases, instance),
+        Mentioned::InvalidResource => { CheckedInstance::Refused(Error::InvalidResource) }
+        Mentioned::Inside => check_named_instance(
+            tlas_at(tlases, id * TLAS_SIZE),
+            blases,
+            instance,
+        ),
     }
 }
 
 fn address_of(blases: &[u8], blas: BlasId) -> u64
-    requires { ⌜ blas .0 < length (now blases) / 28 ⌝ }
+    requires { ⌜ blas .0 < length (now blases) / size 2 ⌝ }
     ensures { λ r. ⌜ r ≡ blasOf (now (blases .entry)) (blas .0) .handle ⌝ }
 {
-    u64_at(blases, blas.0 as usize * 28 + 12)
+    u64_at(blases, blas.0 as usize * BLAS_SIZE + HANDLE)
 }
 
 // Appends one instance of a Tlas to the instances in use, or refuses and writes nothing.
@@ -202,54 +123,65 @@ pub fn append_instance(
     instances: &mut [u8],
     used: usize,
 ) -> Appended
-    ensures { λ r. ⌜ Appends (now (tlases .entry)) (now (blases .entry)) tlas instance (now (instances .entry)) used
-        (appendedOf r) (now (instances .exit)) ⌝ }
+    ensures { λ r. ⌜
+        Appends (now (tlases .entry)) (now (blases .entry)) tlas instance (now (instances .entry)) used
+        (appendedOf r) (now (instances .exit))
+        ⌝ }
 {
     let checked = check_named_tlas(tlases, blases, tlas, instance);
     match checked {
         CheckedInstance::Refused(e) => Appended::Refused(e),
         CheckedInstance::Fine => {
             if used <= instances.len() {
-                if 64 <= instances.len() - used {
-                    let end = used + 64;
+                if INSTANCE_SIZE <= instances.len() - used {
+                    let end = used + INSTANCE_SIZE;
                     let address = address_of(blases, instance.blas);
                     put_instance(instances, used, instance, address);
                     return Appended::InUse(end);
                 }
             }
-            Appended::Refused(BuildAccelerationStructureError::OutputTooShort)
+            Appended::Refused(Error::OutputTooShort)
         }
     }
 }
 
 // What a build judges of the slot at a place: 6 for its Blas, and later 34, 35.
 pub fn slot_mention(blases: &[u8], slots: &[u8], at: usize) -> Mentioned
-    requires { ⌜ at + 56 ≤ length (now slots) ⌝ }
+    requires { ⌜ at + size 8 ≤ length (now slots) ⌝ }
     ensures { λ r. ⌜ mentionOf r ≡ slotMention (now (blases .entry)) (now (slots .entry)) at ⌝ }
 {
     if u8_at(slots, at) == 0 {
         return Mentioned::Inside;
     }
-    blas_mention(blases, u16_at(slots, at + 1) as usize)
+    blas_mention(blases, u16_at(slots, at + SLOT_BLAS) as usize)
 }
 
 pub fn check_slot(tlas: Tlas, blases: &[u8], slots: &[u8], at: usize) -> CheckedInstance
-    requires { ⌜ (at + 56 ≤ length (now slots)) × (slotMention (now blases) (now slots) at ≡ 0) ⌝ }
+    requires { ⌜ (at + size 8 ≤ length (now slots)) × (slotMention (now blases) (now slots) at ≡ 0) ⌝ }
     ensures { λ r. ⌜ instanceCause r ≡ bare (slotRule tlas (now (blases .entry)) (now (slots .entry)) at) ⌝ }
 {
     if u8_at(slots, at) == 0 {
         return CheckedInstance::Fine;
     }
-    let id = u16_at(slots, at + 1) as usize;
-    check_instance(tlas, blas_at(blases, id * 28), u32_at(slots, at + 3))
+    let id = u16_at(slots, at + SLOT_BLAS) as usize;
+    check_instance(
+        tlas,
+        blas_at(blases, id * BLAS_SIZE),
+        u32_at(slots, at + SLOT_CUSTOM_DATA),
+    )
 }
 
 // Writes what the slot at a place writes, from index end on, and returns the index past it.
 fn put_slot(blases: &[u8], slots: &[u8], at: usize, instances: &mut [u8], end: usize) -> usize
-    requires { ⌜ (at + 56 ≤ length (now slots)) × (end + length (slotBytes (now blases) (now slots) at) ≤ length (now instances)) ⌝ }
+    requires { ⌜
+        (at + size 8 ≤ length (now slots)) × (end + length (slotBytes (now blases) (now slots) at) ≤ length (now instances))
+        ⌝ }
     requires { ⌜ ((fieldAt 8 (now slots) at 0 ≡ 0 → ⊥) → Writable (now blases) (now slots) at) ⌝ }
     ensures { λ r. ⌜ r ≡ end + length (slotBytes (now (blases .entry)) (now (slots .entry)) at) ⌝ }
-    ensures { λ _. ⌜ now (instances .exit) ≡ sets (now (instances .entry)) end (slotBytes (now (blases .entry)) (now (slots .entry)) at) ⌝ }
+    ensures { λ _. ⌜
+        now (instances .exit)
+        ≡ sets (now (instances .entry)) end (slotBytes (now (blases .entry)) (now (slots .entry)) at)
+        ⌝ }
 {
     if u8_at(slots, at) == 0 {
         return end;
@@ -257,7 +189,7 @@ fn put_slot(blases: &[u8], slots: &[u8], at: usize, instances: &mut [u8], end: u
     let instance = instance_from(slots, at + 1);
     let address = address_of(blases, instance.blas);
     put_instance(instances, end, instance, address);
-    end + 64
+    end + INSTANCE_SIZE
 }
 
 // Writes what count slots from slot first on write, from index at on, and returns the index past it.
@@ -269,22 +201,33 @@ pub fn put_slots(
     instances: &mut [u8],
     at: usize,
 ) -> usize
-    requires { ⌜ ((first + count) * 56 ≤ length (now slots)) × (at + 64 * presentOf (now slots) first count ≤ length (now instances)) ⌝ }
-    requires { ⌜ ((i : ℕ) → i < count → (fieldAt 8 (now slots) ((first + i) * 56) 0 ≡ 0 → ⊥) → Writable (now blases) (now slots) ((first + i) * 56)) ⌝ }
+    requires { ⌜
+        ((first + count) * size 8 ≤ length (now slots))
+        × (at + 64 * presentOf (now slots) first count ≤ length (now instances))
+        ⌝ }
+    requires { ⌜
+        ((i : ℕ)
+        → i < count
+        → (fieldAt 8 (now slots) ((first + i) * size 8) 0 ≡ 0 → ⊥)
+        → Writable (now blases) (now slots) ((first + i) * size 8))
+        ⌝ }
     ensures { λ r. ⌜ r ≡ at + 64 * presentOf (now (slots .entry)) first count ⌝ }
-    ensures { λ _. ⌜ now (instances .exit) ≡ sets (now (instances .entry)) at (slotsBytes (now (blases .entry)) (now (slots .entry)) first count) ⌝ }
+    ensures { λ _. ⌜
+        now (instances .exit)
+        ≡ sets (now (instances .entry)) at (slotsBytes (now (blases .entry)) (now (slots .entry)) first count)
+        ⌝ }
 {
     let mut end = at;
     let mut i: usize = 0;
     while i < count {
-        end = put_slot(blases, slots, (first + i) * 56, instances, end);
+        end = put_slot(blases, slots, (first + i) * SLOT_SIZE, instances, end);
         i += 1;
     }
     end
 }
 
 fn presence(slots: &[u8], at: usize) -> usize
-    requires { ⌜ at + 56 ≤ length (now slots) ⌝ }
+    requires { ⌜ at + size 8 ≤ length (now slots) ⌝ }
     ensures { λ r. ⌜ (r ≡ cond (presentAt (now (slots .entry)) at) 1 0) × (r ≤ 1) ⌝ }
 {
     if u8_at(slots, at) == 0 { 0 } else { 1 }
@@ -292,13 +235,13 @@ fn presence(slots: &[u8], at: usize) -> usize
 
 // How many of count slots from slot first on are present.
 pub fn present_of(slots: &[u8], first: usize, count: usize) -> usize
-    requires { ⌜ (first + count) * 56 ≤ length (now slots) ⌝ }
+    requires { ⌜ (first + count) * size 8 ≤ length (now slots) ⌝ }
     ensures { λ r. ⌜ (r ≡ presentOf (now (slots .entry)) first count) × (r ≤ count) ⌝ }
 {
     let mut n: usize = 0;
     let mut i: usize = 0;
     while i < count {
-        n = n + presence(slots, (first + i) * 56);
+        n = n + presence(slots, (first + i) * SLOT_SIZE);
         i += 1;
     }
     n

@@ -8,7 +8,8 @@ use mathlib.Core.List.{List, [], _∷_, _++_, map, flatten}
 use lib.ListN.{length}
 use Rattle.ray_tracing.specs.Causes.{Cause}
 use Rattle.ray_tracing.specs.Submission.{Lent, Piece, Action, Answer, Outcome, accepted, refused, _leaving_, left, _followedBy_, later, judge, step, run, submission, decode}
-use Rattle.ray_tracing.specs.Claim.{Call, Sent, allSent, sendRefused, send, Cut, Fits}
+use Rattle.ray_tracing.specs.Claim.{Cut, Fits}
+use Rattle.ray_tracing.proofs.Outcomes.{outcomeSent, outcomeRefused, allOutcomes, OutcomeSent, OutcomeCall}
 use Rattle.ray_tracing.proofs.Firsts.{later-later, later-zero, later-then, then-then, then-ap}
 use Rattle.ray_tracing.proofs.Sound.{Sound, sound, judged, sound-submission}
 
@@ -32,23 +33,23 @@ unfolding submission
 submission-run l acts h = rw (judged l h)
 
 -- what a call leaves is again such a start
-pub sound-call : (l : Lent) (p : Piece) (r : Answer) (l′ : Lent) → Call l p r l′ → Sound l → Sound l′
+pub sound-call : (l : Lent) (p : Piece) (r : Answer) (l′ : Lent) → OutcomeCall l p r l′ → Sound l → Sound l′
 sound-call l p r l′ e h = rw (ap left e) (sound-submission l (decode p) h)
 
 -- in the words of the claim: no later start of a chain of calls is refused
-pub judge-kept : (l : Lent) (p : Piece) (r : Answer) (l′ : Lent) → Call l p r l′ → Fits l → judge l ≡ none → Fits l′ × (judge l′ ≡ none)
+pub judge-kept : (l : Lent) (p : Piece) (r : Answer) (l′ : Lent) → OutcomeCall l p r l′ → Fits l → judge l ≡ none → Fits l′ × (judge l′ ≡ none)
 judge-kept l p r l′ e f j = let h = sound-call l p r l′ e (sound l f j) in (h .fits, judged l′ h)
 
-sent-run : {l : Lent} {pieces : List Piece} {o : Outcome} → Sent l pieces o → Sound l → o ≡ run l (flatten (map decode pieces))
+sent-run : {l : Lent} {pieces : List Piece} {o : Outcome} → OutcomeSent l pieces o → Sound l → o ≡ run l (flatten (map decode pieces))
 unfolding flatten run
-sent-run allSent h = refl
-sent-run {l = l} (sendRefused {l′ = l′} {p = p} {ps = ps} {i = i} {c = c} e) h =
+sent-run allOutcomes h = refl
+sent-run {l = l} (outcomeRefused {l′ = l′} {p = p} {ps = ps} {i = i} {c = c} e) h =
     ap (λ (o : Outcome). o followedBy λ r. later (length (decode p)) (run r (flatten (map decode ps)))) (e ∙ submission-run l (decode p) h)
     ∙ sym (run-append l (decode p) (flatten (map decode ps)))
-sent-run {l = l} (send {l′ = l′} {p = p} {ps = ps} {o = o} e s) h =
+sent-run {l = l} (outcomeSent {l′ = l′} {p = p} {ps = ps} {o = o} e s) h =
     ap (later (length (decode p))) (sent-run s (sound-call l p accepted l′ e h))
     ∙ ap (λ (o : Outcome). o followedBy λ r. later (length (decode p)) (run r (flatten (map decode ps)))) (e ∙ submission-run l (decode p) h)
     ∙ sym (run-append l (decode p) (flatten (map decode ps)))
 
-pub cuts : (l : Lent) → Sound l → (whole : Piece) (pieces : List Piece) → Cut whole pieces → (o : Outcome) → Sent l pieces o → o ≡ submission l (decode whole)
+pub cuts : (l : Lent) → Sound l → (whole : Piece) (pieces : List Piece) → Cut whole pieces → (o : Outcome) → OutcomeSent l pieces o → o ≡ submission l (decode whole)
 cuts l h whole pieces c o s = sent-run s h ∙ ap (run l) c ∙ sym (submission-run l (decode whole) h)

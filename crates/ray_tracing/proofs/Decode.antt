@@ -13,7 +13,8 @@ use lib.Seq.{drop-cons, drop-append-le, take-append-le}
 use lib.Dec.{leb, eqb}
 use borrow.Author.Tests.{leb-true, le-leb}
 use Rattle.ray_tracing.specs.Submission.{Lent, Piece, Package, Action, build, useTlas, markBlas, markTlas, malformed, Outcome, judge, submission, packageFrom, pastPackage, packagesAt, packagesLent, buildAt, action, decodeCells, decode}
-use Rattle.ray_tracing.specs.Claim.{Each, Cut, Sent, Fits}
+use Rattle.ray_tracing.specs.Claim.{Each, Cut, Fits}
+use Rattle.ray_tracing.proofs.Outcomes.{OutcomeSent}
 use Rattle.ray_tracing.proofs.Demand3.{demand-3}
 
 -- ---- cells by index
@@ -80,7 +81,7 @@ cut-of-cells lists (s ∷ parts) last w =
 
 -- and so demand 3's first half, of such a cut
 pub cuts-of-cells : (l : Lent) → Fits l → judge l ≡ none → (lists : List ℕ) (parts : List (List ℕ)) (last : List ℕ) → Each (λ s. length s % 4 ≡ 0) parts
-    → (o : Outcome) → Sent l (map (over lists) (parts ++ last ∷ [])) o → o ≡ submission l (decode (over lists (flatten parts ++ last)))
+    → (o : Outcome) → OutcomeSent l (map (over lists) (parts ++ last ∷ [])) o → o ≡ submission l (decode (over lists (flatten parts ++ last)))
 cuts-of-cells l f j lists parts last w o s =
     demand-3 l f j .cuts (over lists (flatten parts ++ last)) (map (over lists) (parts ++ last ∷ [])) (cut-of-cells lists parts last w) o s
 

@@ -12,7 +12,8 @@ use borrow.Author.Tests.{leb-true, leb-false, le-leb, lt-leb, lt-ltb}
 use Rattle.ray_tracing.specs.Causes.{Cause}
 use Rattle.ray_tracing.specs.Submission.{Lent, Piece, Package, Action, build, useTlas, malformed, Answer, Outcome, accepted, refused, _leaving_, left, _followedBy_, later, unlessCause, first, tlasCount, tlas, judge, before, buildBlases, buildTlas, unnumbered, buildTlases, unusable, act, step, run, submission, decode}
 use Rattle.ray_tracing.specs.History.{among, Built, blasNumber, Latest, listed, builtWith, latest, since, usable, allowed, Told, passed, stopped, log, going, told, acts, tellAction, tellActions, history}
-use Rattle.ray_tracing.specs.Claim.{Call, Calls, noCall, call, reached, Each, UsableBlas, Usable, NumbersBelow, Use, Fits, Demand-3}
+use Rattle.ray_tracing.specs.Claim.{Each, UsableBlas, Usable, NumbersBelow, Fits}
+use Rattle.ray_tracing.proofs.Outcomes.{OutcomeDemand, OutcomeUse, outcomeReached, outcomeCall, noOutcome, OutcomeCalls, OutcomeCall}
 use Rattle.ray_tracing.proofs.Sound.{Sound, sound}
 use Rattle.ray_tracing.proofs.Cuts.{run-append, submission-run, sound-call, cuts}
 use Rattle.ray_tracing.proofs.Words.{usable-iff}
@@ -20,15 +21,15 @@ use Rattle.ray_tracing.proofs.Agree.{Chain, Agree, agree-start, Same, s
 
 -- ---- what is lent and the log, after a list of calls
 
-agree-call : (l : Lent) (h : List Built) (r : Lent) → Agree l h r → (p : Piece) (a : Answer) (r′ : Lent) → Call r p a r′ → Agree l (log (tellActions l h (decode p))) r′
+agree-call : (l : Lent) (h : List Built) (r : Lent) → Agree l h r → (p : Piece) (a : Answer) (r′ : Lent) → OutcomeCall r p a r′ → Agree l (log (tellActions l h (decode p))) r′
 agree-call l h r g p a r′ e =
     subst (Agree l (log (tellActions l h (decode p)))) (sym (ap left (e ∙ submission-run r (decode p) (g .sound))))
     (same-agree l (tellActions l h (decode p)) (run r (decode p)) (run-same l h r g (decode p)))
 
-agree-calls : (l : Lent) {r : Lent} {done : List Piece} {r′ : Lent} → Calls r done r′ → (h : List Built) → Agree l h r → Agree l (history l h (map decode done)) r′
+agree-calls : (l : Lent) {r : Lent} {done : List Piece} {r′ : Lent} → OutcomeCalls r done r′ → (h : List Built) → Agree l h r → Agree l (history l h (map decode done)) r′
 unfolding history
-agree-calls l noCall h a = a
-agree-calls l {r = r} (call {l′ = q} {p = p} {r = x} e c) h a = agree-calls l c (log (tellActions l h (decode p))) (agree-call l h r a p x q e)
+agree-calls l noOutcome h a = a
+agree-calls l {r = r} (outcomeCall {l′ = q} {p = p} {r = x} e c) h a = agree-calls l c (log (tellActions l h (decode p))) (agree-call l h r a p x q e)
 
 -- ---- a run is refused at one of its actions
 
@@ -70,13 +71,13 @@ within-run l (a ∷ more) = go (step l a) (within-step l a) (λ r. within-run r 
 
 -- ---- which actions are reached
 
-reached-later : (n : ℕ) (o : Outcome) → reached n (later n o) ≡ true
-unfolding reached
+reached-later : (n : ℕ) (o : Outcome) → outcomeReached n (later n o) ≡ true
+unfolding outcomeReached
 reached-later n (accepted leaving l) = refl
 reached-later n (refused i c leaving l) = le-leb n (n + i) (omega arith)
 
-reached-suc : (n : ℕ) (o : Outcome) → reached (suc n) (later n o) ≡ reached 1 o
-unfolding reached
+reached-suc : (n : ℕ) (o : Outcome) → outcomeReached (suc n) (later n o) ≡ outcomeReached 1 o
+unfolding outcomeReached
 reached-suc n (accepted leaving l) = refl
 reached-suc n (refused i c leaving l) = go (leb 1 i) refl
   where
@@ -84,15 +85,15 @@ reached-suc n (refused i c leaving l) = go (leb 1 i) refl
     go true e = let k = leb-true 1 i e in le-leb (suc n) (n + i) (omega arith)
     go false e = let k = leb-false 1 i e in lt-leb (suc n) (n + i) (omega arith)
 
-reached-pred : (n : ℕ) (o : Outcome) → reached (suc n) o ≡ true → reached n o ≡ true
-unfolding reached
+reached-pred : (n : ℕ) (o : Outcome) → outcomeReached (suc n) o ≡ true → outcomeReached n o ≡ true
+unfolding outcomeReached
 reached-pred n (accepted leaving l) e = refl
 reached-pred n (refused i c leaving l) e = let k = leb-true (suc n) i e in le-leb n i (omega arith)
 
 -- what comes after n actions is reached if the history goes on there
 reached-then : (l : Lent) (n : ℕ) (x : Told) (o : Outcome) (f : Lent → Outcome) → Same l x o → Within n o
-    → reached n (o followedBy λ r. later n (f r)) ≡ going x
-unfolding reached
+    → outcomeReached n (o followedBy λ r. later n (f r)) ≡ going x
+unfolding outcomeReached
 reached-then l n (passed h) (accepted leaving r) f a w = reached-later n (f r)
 reached-then l n (stopped h) (refused i c leaving r) f a w = lt-leb n i w
 reached-then l n (passed h) (refused i c leaving r) f a w = absurd a
@@ -110,9 +111,9 @@ going-use l h t k =
     go false = refl
 
 rule : (l : Lent) (n : ℕ) (x : Told) (o : Outcome) (t : ℕ) (more : List Action) → t < tlasCount l → Same l x o → Within n o
-    → reached n (o followedBy λ r. later n (run r (useTlas t ∷ more))) ≡ true
-    → reached (suc n) (o followedBy λ r. later n (run r (useTlas t ∷ more))) ≡ usable l (log x) t
-unfolding run reached
+    → outcomeReached n (o followedBy λ r. later n (run r (useTlas t ∷ more))) ≡ true
+    → outcomeReached (suc n) (o followedBy λ r. later n (run r (useTlas t ∷ more))) ≡ usable l (log x) t
+unfolding run outcomeReached
 rule l n (passed h) (accepted leaving r) t more k a w e =
     reached-suc n (run r (useTlas t ∷ more))
     ∙ reached-then l 1 (tellAction l h (useTlas t)) (step r (useTlas t)) (λ q. run q more) (step-same l h r a (useTlas t)) (within-step r (useTlas t))
@@ -160,7 +161,7 @@ fresh l h t c b k u =
 -- ---- a use in a submission
 
 use-then : (l : Lent) (h : List Built) (r : Lent) → Agree l h r → (acts : List Action) (t : ℕ) (more : List Action) → t < tlasCount l
-    → Use l (tellActions l h acts) t (length acts) (run r acts followedBy λ q. later (length acts) (run q (useTlas t ∷ more)))
+    → OutcomeUse l (tellActions l h acts) t (length acts) (run r acts followedBy λ q. later (length acts) (run q (useTlas t ∷ more)))
 use-then l h r a acts t more k =
     let same = run-same l h r a acts in
     let w = within-run r acts in
@@ -181,19 +182,19 @@ use-within (x ∷ xs) zero t e = omega arith
 use-within (x ∷ xs) (suc i) t e = omega (arith, use-within xs i t e)
 
 use-at : (l : Lent) (h : List Built) (r : Lent) → Agree l h r → (xs : List Action) (i t : ℕ) → getD xs i malformed ≡ useTlas t → t < tlasCount l
-    → Use l (tellActions l h (take i xs)) t i (submission r xs)
+    → OutcomeUse l (tellActions l h (take i xs)) t i (submission r xs)
 use-at l h r a xs i t e k =
     let w = use-within xs i t e in
     let n : length (take i xs) ≡ i = length-take-le i xs (omega arith) in
     let parts : xs ≡ take i xs ++ useTlas t ∷ drop (suc i) xs = split-at xs i malformed w ∙ ap (λ (x : Action). take i xs ++ x ∷ drop (suc i) xs) e in
-    subst (λ (o : Outcome). Use l (tellActions l h (take i xs)) t i o)
+    subst (λ (o : Outcome). OutcomeUse l (tellActions l h (take i xs)) t i o)
     (sym (submission-run r xs (a .sound) ∙ ap (run r) parts ∙ run-append r (take i xs) (useTlas t ∷ drop (suc i) xs)))
-    (subst (λ (j : ℕ). Use l (tellActions l h (take i xs)) t j (run r (take i xs) followedBy λ q. later (length (take i xs)) (run q (useTlas t ∷ drop (suc i) xs)))) n
+    (subst (λ (j : ℕ). OutcomeUse l (tellActions l h (take i xs)) t j (run r (take i xs) followedBy λ q. later (length (take i xs)) (run q (useTlas t ∷ drop (suc i) xs)))) n
     (use-then l h r a (take i xs) t (drop (suc i) xs) k))
 
 -- ---- the whole
 
-pub demand-3 : (l : Lent) → Fits l → judge l ≡ none → Demand-3 l
+pub demand-3 : (l : Lent) → Fits l → judge l ≡ none → OutcomeDemand l
 demand-3 l f j =
     let s = sound l f j in
     record {

@@ -29,6 +29,10 @@ pub mod Stretches
 pub mod Staged
 pub mod RecordedAction
 pub mod PlanLaws
+pub mod Vulkan
 pub mod Lent
+pub mod Told
+pub mod Outcomes
+pub mod Callers
 pub mod DemandExamples
 pub mod Examples

@@ -103,9 +103,15 @@ room-is-last x o o′ e f c n h =
     (length (planOf x .«init_ranges»)) (scratchSize x) (countsOf (planOf x)) e f c
     (only-39 (short (planOf x .«init_ranges») (o .«init_ranges»))) (only-39 (tooShort (planOf x) o)) n h
 
-last-false : (a b : Bool) → (a || b) ≡ false → b ≡ false
-last-false false b e = e
-last-false true b e = let z : _≡_ {A = ℕ} 0 1 = cc in absurd (omega arith)
+either-false : (a b : Bool) → (a || b) ≡ false → (a ≡ false) × (b ≡ false)
+either-false false b e = (refl, e)
+either-false true b e = let z : _≡_ {A = ℕ} 0 1 = cc in absurd (omega arith)
+
+-- the outputs that laws read have room for what is written
+pub record Rooms (x : Tables) (o : Outputs) : Type 0 where
+  pub staging : length (planOf x .«staging_ranges») ≤ length (o .«staging_ranges»)
+  pub instances : length (planOf x .instances) ≤ length (o .instances)
+  pub lists : length (planOf x .lists) ≤ length (o .lists)
 
 -- ---- the plan of a recorded build
 
@@ -189,15 +195,21 @@ module _ (x : Tables) (o : Outputs) (n : ℕ) (w : Written) (r : build x o ≡ r
         eqb-false (blasOfEntry x i .«compacted_state») 3 (on-passed _ i 0 _ (e .1)),
       )
 
-  lists-room : length (planOf x .lists) ≤ length (o .lists)
-  lists-room =
+  -- no output is too short
+  pub room : Rooms x o
+  room =
       let p = planOf x in
-      let e = last-false (short (p .«blas_offsets») (o .«blas_offsets»)) _ (judged .room) in
-      let f = last-false (short (p .«tlas_offsets») (o .«tlas_offsets»)) _ e in
-      let g = last-false (short (p .«staging_ranges») (o .«staging_ranges»)) _ f in
-      let h = last-false (short (p .instances) (o .instances)) _ g in
-      let i = last-false (short (p .«init_ranges») (o .«init_ranges»)) _ h in
-      ltb-false (length (o .lists)) (length (p .lists)) (last-false (short (p .compactable) (o .compactable)) _ i)
+      let a = either-false (short (p .«blas_offsets») (o .«blas_offsets»)) _ (judged .room) in
+      let b = either-false (short (p .«tlas_offsets») (o .«tlas_offsets»)) _ (a .1) in
+      let c = either-false (short (p .«staging_ranges») (o .«staging_ranges»)) _ (b .1) in
+      let d = either-false (short (p .instances) (o .instances)) _ (c .1) in
+      let e = either-false (short (p .«init_ranges») (o .«init_ranges»)) _ (d .1) in
+      let f = either-false (short (p .compactable) (o .compactable)) _ (e .1) in
+      record {
+        staging = ltb-false (length (o .«staging_ranges»)) (length (p .«staging_ranges»)) (c .0);
+        instances = ltb-false (length (o .instances)) (length (p .instances)) (d .0);
+        lists = ltb-false (length (o .lists)) (length (p .lists)) (f .1);
+      }
 
   -- what is submitted of it, over the lists that it leaves: a Build of the entries' Blases in order, and of each package's Tlas with its
   -- present slots' Blases in order
@@ -209,7 +221,7 @@ module _ (x : Tables) (o : Outputs) (n : ℕ) (w : Written) (r : build x o ≡ r
       let l = planOf x .lists in
       ap (λ (a : Action). a ∷ [])
       (action-decoded x (leaves (build x o) (planOf x) o .lists) (drop (0 + length l) (o .lists))
-      (ap (λ (a : Building). leaves a (planOf x) o .lists) r ∙ sets-eq l (o .lists) 0 (rw zero-add lists-room)))
+      (ap (λ (a : Building). leaves a (planOf x) o .lists) r ∙ sets-eq l (o .lists) 0 (rw zero-add (room .lists))))
 
   -- on the same tables that action is refused for nothing but a counter that is 0
   pub not-refused :

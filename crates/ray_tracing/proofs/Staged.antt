@@ -75,6 +75,15 @@ module _ (x : Tables) where
       present-zero : presentOf (x .slots) 0 0 ≡ 0
       present-zero = omega (arith, present-bound (x .slots) 0 0)
 
+  staging-cells : (n start p s : ℕ) → length (stagingFrom x start p s n) ≡ 2 * n
+  unfolding stagingFrom
+  staging-cells zero start p s = refl
+  staging-cells (suc n) start p s = omega (arith, staging-cells n (start + 64 * presentOf (x .slots) s (slotCount x p)) (p + 1) (s + slotCount x p))
+
+  pub staging-length : length (planOf x .«staging_ranges») ≡ 2 * recordsIn x 7
+  unfolding planOf
+  staging-length = staging-cells (recordsIn x 7) 0 0 0
+
   abbrev staging : ℕ → ℕ
   staging k = getD (planOf x .«staging_ranges») k 0
 

@@ -2,6 +2,7 @@
 use Prim.Native.Nat.{ℕ, _+_, _*_, _%_}
 use mathlib.Core.Bool.{_||_}
 use mathlib.Core.Option.{Option}
+use mathlib.Core.List.{[]}
 use lib.Dec.{ltb}
 use Rattle.scratch.specs.Scratch.{stopped}
 use Rattle.ray_tracing.specs.declared.Blas.{Blas}
@@ -10,7 +11,7 @@ use Rattle.ray_tracing.specs.declared.BlasGeometry.{BlasGeometry}
 use Rattle.ray_tracing.specs.declared.BlasGeometrySizeDescriptor.{BlasGeometrySizeDescriptor}
 use Rattle.ray_tracing.specs.Causes.{Cause, cause, bare}
 use Rattle.ray_tracing.specs.Guard.{refuse, neb}
-use Rattle.ray_tracing.specs.Checks.{Checked, asks, refused, range, limit32, usableBuffer}
+use Rattle.ray_tracing.specs.Checks.{Checked, asks, refused, range, ranges, limit32, usableBuffer}
 use Rattle.ray_tracing.specs.Triangles.{declaredRule}
 
 -- "21, 22, 26 (stride or count times stride above 2^32 - 1), 23"
@@ -23,7 +24,7 @@ regionRule g b =
     (refuse
     (ltb (b .size) (g .first + g .count * g .stride))
     (refused (cause 23 (g .first) (g .count * g .stride) (b .size)))
-    (asks (range (g .buffer .0) (g .first) (g .count * g .stride)))))
+    (asks (ranges (range (g .buffer .0) (g .first) (g .count * g .stride)) [] []))))
 
 -- 12 flags differ, 31 box count above declared, 32 box offset not in eights, 33 box stride below 24 or not in eights, then the buffer
 abbrev pub givenRule : BlasGeometrySizeDescriptor → BlasGeometry → Buffer → Checked

@@ -1,5 +1,6 @@
 -- "Causes and what they cost": the number of each cause, and what is returned with it, for each answer of the code. Assumes nothing.
 use Prim.Native.Nat.{ℕ}
+use mathlib.Core.Bool.{Bool, true, false}
 use Rattle.ray_tracing.specs.declared.BufferId.{BufferId}
 use Rattle.ray_tracing.specs.declared.BlasId.{BlasId}
 use Rattle.ray_tracing.specs.declared.TlasId.{TlasId}
@@ -35,9 +36,15 @@ pub record Cause : Type 0 where
   pub first : ℕ
   pub second : ℕ
   pub third : ℕ
+  -- the figures are a use's, its Tlas before its Blas: so that 42 of a Build and 42 of a use are two causes
+  pub ofUse : Bool
 
 abbrev pub cause : ℕ → ℕ → ℕ → ℕ → Cause
-cause n a b c = record { number = n; first = a; second = b; third = c }
+cause n a b c = record { number = n; first = a; second = b; third = c; ofUse = false }
+
+-- "42 gives Blas, Tlas in a Build and Tlas, Blas in a use"
+abbrev pub unbuiltInUse : ℕ → ℕ → Cause
+unbuiltInUse tlas blas = record { number = 42; first = tlas; second = blas; third = 0; ofUse = true }
 
 abbrev pub bare : ℕ → Cause
 bare n = cause n 0 0 0
@@ -94,6 +101,6 @@ submissionCause submission.OutputTooShort = bare 39
 submissionCause submission.CounterExhausted = bare 40
 submissionCause (submission.CompactedBlas b) = cause 41 (b .0) 0 0
 submissionCause (submission.UsedUnbuiltBlas b t) = cause 42 (b .0) (t .0) 0
-submissionCause (submission.UsedTlasOfUnbuiltBlas t b) = cause 42 (t .0) (b .0) 0
+submissionCause (submission.UsedTlasOfUnbuiltBlas t b) = unbuiltInUse (t .0) (b .0)
 submissionCause (submission.UsedUnbuiltTlas t) = cause 43 (t .0) 0 0
 submissionCause (submission.BlasNewerThenTlas b t) = cause 44 (b .0) (t .0) 0

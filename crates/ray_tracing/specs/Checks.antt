@@ -19,13 +19,22 @@ use Rattle.ray_tracing.specs.Causes.{Cause, cause, buildCause}
 use Rattle.ray_tracing.specs.Guard.{refuse}
 
 infixr 20 _then_
--- buffer, start and end of each range, in the order asked for; or the first cause
+-- buffer, start and end of each range asked for: of the data buffer, of the index buffer, of the transform buffer
+pub record Ranges : Type 0 where
+  pub ofData : List ℕ
+  pub ofIndices : List ℕ
+  pub ofTransform : List ℕ
+
+abbrev pub ranges : List ℕ → List ℕ → List ℕ → Ranges
+ranges d i t = record { ofData = d; ofIndices = i; ofTransform = t }
+
+-- those, or the first cause
 pub data Checked : Type 0 where
-  asks : List ℕ → Checked
+  asks : Ranges → Checked
   refused : Cause → Checked
 
-abbrev pub asksToo : List ℕ → Checked → Checked
-asksToo a (asks b) = asks (a ++ b)
+abbrev pub asksToo : Ranges → Checked → Checked
+asksToo a (asks b) = asks (ranges (a .ofData ++ b .ofData) (a .ofIndices ++ b .ofIndices) (a .ofTransform ++ b .ofTransform))
 asksToo a (refused c) = refused c
 
 -- one check after the other

@@ -1,32 +1,74 @@
--- Demand 3, whole, over what is lent. Assumes nothing.
+-- Demand 3, whole, as a caller sees it: by the numbers that calls answer, and the counter and the buffers that they leave. Assumes nothing.
 use Prim.Native.Nat.{ℕ, suc, _+_, _*_, _^_, _≤_, _<_}
 use mathlib.Core.Path.{_≡_}
 use mathlib.Core.Logic.{_↔_}
-use mathlib.Core.Bool.{Bool, true, false}
+use mathlib.Core.Bool.{Bool, true, false, _||_, cond}
 use mathlib.Core.List.{List, [], _∷_, map, flatten}
 use lib.ListN.{length, getD, take}
-use lib.Dec.{leb}
-use Rattle.ray_tracing.specs.Causes.{Cause}
-use Rattle.ray_tracing.specs.Submission.{Lent, Piece, Answer, accepted, refused, Outcome, _leaving_, later, submission, decode, useTlas, malformed, blasCount, tlasCount, blas, tlas, dependenciesOf}
+use lib.Dec.{leb, eqb}
+use Rattle.ray_tracing.specs.declared.Submitted.{Submitted}
+use Rattle.ray_tracing.specs.declared.CommandIndices.{CommandIndices}
+use Rattle.ray_tracing.specs.declared.Validated.{Validated}
+use Rattle.ray_tracing.specs.Submission.{Lent, Piece, Numbers, answerNumbers, submission, decode, useTlas, malformed, blasCount, tlasCount, blas, tlas, dependenciesOf, Buffers, lentWith, answerOf, counterOf, Submits, Shown, shown, numbersOf, Validates}
 use Rattle.ray_tracing.specs.History.{among, Built, next, blasNumber, Latest, latest, since, cell, blasBy, tlasBy, Told, log, going, tellActions, history}
+
+-- ---- routines
+
+-- a routine by its contract: lent the counter n, the buffers x and the piece p, it shows its caller s
+abbrev pub Routine : Type 1
+Routine = ℕ → Buffers → Piece → Shown → Type 0
+
+-- `submit`: its answer has the counter in it
+pub record SubmitShows (n : ℕ) (x : Buffers) (p : Piece) (s : Shown) : Type 0 where
+  pub answer : Submitted
+  pub called : Submits n x p answer (s .left)
+  pub numbers : s .numbers ≡ answerNumbers (answerOf answer)
+  pub counter : s .counter ≡ counterOf answer
+
+-- `validate_acceleration_structure_actions`, and `zakvind_submit`, which has the same contract: the counter is stepped in the indices
+pub record ValidateShows (n : ℕ) (x : Buffers) (p : Piece) (s : Shown) : Type 0 where
+  pub indices : CommandIndices
+  pub stepped : CommandIndices
+  pub answer : Validated
+  pub called : Validates indices x p answer stepped (s .left)
+  pub lent : n ≡ indices .«next_acceleration_structure_build_command_index»
+  pub numbers : s .numbers ≡ numbersOf answer
+  pub counter : s .counter ≡ stepped .«next_acceleration_structure_build_command_index»
 
 -- ---- calls
 
--- a call that was lent l and p, answered r and left l′: what the routine promises
-abbrev pub Call : Lent → Piece → Answer → Lent → Type 0
-Call l p r l′ = r leaving l′ ≡ submission l (decode p)
+-- "refused ones included, each on what the one before left"
+pub data Calls (R : Routine) : ℕ → Buffers → List Piece → ℕ → Buffers → Type 0 where
+  noCall : {n : ℕ} {x : Buffers} → Calls R n x [] n x
+  call : {n m : ℕ} {x y : Buffers} {p : Piece} {ps : List Piece} {s : Shown} → R n x p s → Calls R (s .counter) (s .left) ps m y
+      → Calls R n x (p ∷ ps) m y
 
--- calls, "refused ones included, each on what the one before left"
-pub data Calls : Lent → List Piece → Lent → Type 0 where
-  noCall : {l : Lent} → Calls l [] l
-  call : {l l′ l″ : Lent} {p : Piece} {ps : List Piece} {r : Answer} → Call l p r l′ → Calls l′ ps l″ → Calls l (p ∷ ps) l″
+-- "the first refusal with its figures (actions counted through)", after k actions; number 0 is none
+abbrev pub countedThrough : ℕ → Shown → Shown
+countedThrough k s =
+    record {
+      numbers =
+          record {
+            number = s .numbers .number;
+            action = cond (eqb (s .numbers .number) 0) 0 (k + s .numbers .action);
+            first = s .numbers .first;
+            second = s .numbers .second;
+          };
+      counter = s .counter;
+      left = s .left;
+    }
 
--- calls, "each sent only after the one before was accepted and on the tables, plant lists and counter it left", with the first refusal,
--- "actions counted through", and what is left
-pub data Sent : Lent → List Piece → Outcome → Type 0 where
-  allSent : {l : Lent} → Sent l [] (accepted leaving l)
-  sendRefused : {l l′ : Lent} {p : Piece} {ps : List Piece} {i : ℕ} {c : Cause} → Call l p (refused i c) l′ → Sent l (p ∷ ps) (refused i c leaving l′)
-  send : {l l′ : Lent} {p : Piece} {ps : List Piece} {o : Outcome} → Call l p accepted l′ → Sent l′ ps o → Sent l (p ∷ ps) (later (length (decode p)) o)
+-- "each sent only after the one before was accepted and on the tables, plant lists and counter it left": what its caller has seen at the end
+pub data Sent (R : Routine) : ℕ → Buffers → List Piece → Shown → Type 0 where
+  allSent : {n : ℕ} {x : Buffers} → Sent R n x [] (record {
+    numbers = record { number = 0; action = 0; first = 0; second = 0 };
+    counter = n;
+    left = x;
+  })
+  sendRefused : {n : ℕ} {x : Buffers} {p : Piece} {ps : List Piece} {s : Shown} → R n x p s → ¬ (s .numbers .number ≡ 0)
+      → Sent R n x (p ∷ ps) s
+  send : {n : ℕ} {x : Buffers} {p : Piece} {ps : List Piece} {s r : Shown} → R n x p s → s .numbers .number ≡ 0
+      → Sent R (s .counter) (s .left) ps r → Sent R n x (p ∷ ps) (countedThrough (length (decode p)) r)
 
 -- a cut of a list of actions: each piece has some of them, with lists of its own or those of the whole
 abbrev pub Cut : Piece → List Piece → Type 0
@@ -35,9 +77,8 @@ Cut whole pieces = flatten (map decode pieces) ≡ decode whole
 -- ---- a use
 
 -- action i is reached: none before it is refused. It passes if action i + 1 would be reached
-unfoldable pub reached : ℕ → Outcome → Bool
-reached i (accepted leaving l) = true
-reached i (refused k c leaving l) = leb i k
+abbrev pub reached : ℕ → Shown → Bool
+reached i s = eqb (s .numbers .number) 0 || leb i (s .numbers .action)
 
 abbrev pub Each : {A : Type 0} → (A → Type 0) → List A → Type 0
 Each P [] = Unit {0}
@@ -60,14 +101,14 @@ pub record NumbersBelow (l : Lent) : Type 0 where
   pub blases : (b : ℕ) → b < blasCount l → ¬ (blas l b .«built_index» ≡ 0) → blas l b .«built_index» < l .counter
   pub tlases : (t : ℕ) → t < tlasCount l → ¬ (tlas l t .«built_index» ≡ 0) → tlas l t .«built_index» < l .counter
 
--- action i of a submission with the outcome o uses t; x is what the history tells of the actions before it
-pub record Use (l : Lent) (x : Told) (t i : ℕ) (o : Outcome) : Type 0 where
+-- action i of a call that showed s uses t; x is what the history tells of the actions before it
+pub record Use (l : Lent) (x : Told) (t i : ℕ) (s : Shown) : Type 0 where
   -- the history knows whether the use is reached
-  pub told : reached i o ≡ going x
+  pub told : reached i s ≡ going x
   -- "once reached, passes exactly when"
-  pub rule : reached i o ≡ true → (reached (suc i) o ≡ true ↔ Usable l (log x) t)
+  pub rule : reached i s ≡ true → (reached (suc i) s ≡ true ↔ Usable l (log x) t)
   -- "a passing use draws no listed plant built by a Build after its house's own"
-  pub fresh : NumbersBelow l → reached (suc i) o ≡ true
+  pub fresh : NumbersBelow l → reached (suc i) s ≡ true
       → Each (λ b. Each (λ e. among b (e .blases) ≡ false) (since (log x) t)) (latest l (log x) t .dependencies)
 
 -- ---- the tables
@@ -90,21 +131,23 @@ pub record ByHistory (l : Lent) (h : List Built) (r : Lent) : Type 0 where
   pub countCells : length (r .dependencyCounts) ≡ length (l .dependencyCounts)
   pub listCells : length (r .dependencies) ≡ length (l .dependencies)
 
--- ---- the demand
-
 -- what the types give: the counter is a u64
 abbrev pub Fits : Lent → Type 0
 Fits l = l .counter < 2 ^ 64
 
--- l: any start that is not refused
-pub record Demand-3 (l : Lent) : Type 0 where
+-- ---- the demand
+
+-- of a routine, from any counter n and buffers x that are not refused as a start
+pub record Demand-3 (R : Routine) (n : ℕ) (x : Buffers) : Type 0 where
   -- "every cut of it into library submissions": the first refusal with its figures, the counter, each record and each list are "those
   -- that document 01's Submission gives for the uncut list"
-  pub cuts : (whole : Piece) (pieces : List Piece) → Cut whole pieces → (o : Outcome) → Sent l pieces o → o ≡ submission l (decode whole)
+  pub cuts : (whole : Piece) (pieces : List Piece) → Cut whole pieces → (s : Shown) → Sent R n x pieces s
+      → s ≡ shown (submission (lentWith n x) (decode whole))
   -- "in every list of submissions from such a start, refused ones included, each on what the one before left, a UseTlas of a Tlas in the
   -- table": p is one of them, `done` are those before it
-  pub uses : (done : List Piece) (l₁ : Lent) → Calls l done l₁ → (p : Piece) (r : Answer) (l₂ : Lent) → Call l₁ p r l₂
-      → (i t : ℕ) → getD (decode p) i malformed ≡ useTlas t → t < tlasCount l
-      → Use l (tellActions l (history l [] (map decode done)) (take i (decode p))) t i (r leaving l₂)
+  pub uses : (done : List Piece) (n₁ : ℕ) (x₁ : Buffers) → Calls R n x done n₁ x₁ → (p : Piece) (s : Shown) → R n₁ x₁ p s
+      → (i t : ℕ) → getD (decode p) i malformed ≡ useTlas t → t < tlasCount (lentWith n x)
+      → Use (lentWith n x) (tellActions (lentWith n x) (history (lentWith n x) [] (map decode done)) (take i (decode p))) t i s
   -- after every such list the tables are the history's
-  pub tables : (done : List Piece) (l₁ : Lent) → Calls l done l₁ → ByHistory l (history l [] (map decode done)) l₁
+  pub tables : (done : List Piece) (n₁ : ℕ) (x₁ : Buffers) → Calls R n x done n₁ x₁
+      → ByHistory (lentWith n x) (history (lentWith n x) [] (map decode done)) (lentWith n₁ x₁)

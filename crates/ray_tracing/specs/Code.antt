@@ -23,7 +23,7 @@ use Rattle.ray_tracing.specs.declared.Verdict as code-verdict
 use Rattle.ray_tracing.specs.declared.Verdict.the-variants as verdict
 use Rattle.ray_tracing.specs.Reading as reading
 use Rattle.ray_tracing.specs.Causes.{Cause, bare, sheetNumber, buildCause}
-use Rattle.ray_tracing.specs.Checks.{Checked, asks, refused}
+use Rattle.ray_tracing.specs.Checks.{Checked, asks, refused, ranges}
 use Rattle.ray_tracing.specs.Plan as plan
 
 -- what judging a field, a record or a table finds, with its place
@@ -54,7 +54,8 @@ askedOf asked.Nothing = []
 askedOf (asked.Of r) = rangeOf r
 
 abbrev pub checkedOf : CheckedGeometry → Checked
-checkedOf (checked-geometry.Fine data-range index transform) = asks (rangeOf data-range ++ (askedOf index ++ askedOf transform))
+checkedOf (checked-geometry.Fine data-range index transform) =
+    asks (ranges (rangeOf data-range) (askedOf index) (askedOf transform))
 checkedOf (checked-geometry.Refused e) = refused (buildCause e)
 
 -- the cause of what judging an instance finds

@@ -133,6 +133,19 @@ instanceFrom s at =
 abbrev pub instanceAt : List ℕ → ℕ → TlasInstance
 instanceAt s at = instanceFrom s (placeOf (slots .fields) at 1)
 
+-- the VkAccelerationStructureInstanceKHR that the slot at a place says: its twelve numbers by their bits, its custom data and mask, and its
+-- Blas's address
+abbrev pub vkSlot : List ℕ → List ℕ → ℕ → VkAccelerationStructureInstanceKHR
+vkSlot blases s at =
+    record {
+      matrix = λ r c. leAt 4 s (placeOf (slots .fields) at 4 + 4 * (4 * r + c));
+      instanceCustomIndex = fieldAt 8 s at 2;
+      mask = fieldAt 8 s at 3;
+      instanceShaderBindingTableRecordOffset = 0;
+      flags = 0;
+      accelerationStructureReference = blasOf blases (fieldAt 8 s at 1) .handle;
+    }
+
 -- whether the slot at a place is present
 abbrev pub presentAt : List ℕ → ℕ → Bool
 presentAt s at = neb (fieldAt 8 s at 0) 0

@@ -1,5 +1,5 @@
 -- The sheet's layout as data, in the order and the words of the paper's part "The sheet": for each section the most records, and of
--- each field its width, whether it is used, the values that it may have, and what it names. Assumes nothing.
+-- each field its width, whether it is used, and the values that it may have. Assumes nothing.
 use Prim.Native.Nat.{ℕ, zero, suc, _+_, _*_, _/_}
 use mathlib.Core.Bool.{Bool, true, false, not, _&&_, _||_, cond}
 use mathlib.Core.List.{List, [], _∷_}
@@ -18,19 +18,12 @@ pub record Seen : Type 0 where
   -- the last present byte, or the kind of an action
   pub tag : ℕ
 
--- what a field is: a plain number, an id into a section, or an id into a section or none
-pub data Sort : Type 0 where
-  plain : Sort
-  id : ℕ → Sort
-  idOrNone : ℕ → Sort
-
 pub record Field : Type 0 where
   -- in bytes
   pub width : ℕ
   pub used : Seen → Bool
   -- the values that it may have if it is used
   pub allowed : Seen → ℕ → Bool
-  pub sort : Seen → Sort
   -- what is known once it is read
   pub after : Seen → ℕ → Seen
 
@@ -114,7 +107,7 @@ tagKnown c v = record { before = c .before; each = c .each; boxes = c .boxes; no
 -- fields by their width in bits, and what else is said of one
 
 abbrev pub wide : ℕ → (Seen → Bool) → (Seen → ℕ → Bool) → Field
-wide w u a = record { width = w; used = u; allowed = a; sort = λ c. plain; after = λ c v. c }
+wide w u a = record { width = w; used = u; allowed = a; after = λ c v. c }
 
 abbrev pub u8 : (Seen → Bool) → (Seen → ℕ → Bool) → Field
 u8 = wide 1
@@ -128,18 +121,11 @@ u32 = wide 4
 abbrev pub u64 : (Seen → Bool) → (Seen → ℕ → Bool) → Field
 u64 = wide 8
 
-abbrev pub naming : (Seen → Sort) → Field → Field
-naming s f = record { width = f .width; used = f .used; allowed = f .allowed; sort = s; after = f .after }
-
 abbrev pub telling : (Seen → ℕ → Seen) → Field → Field
-telling t f = record { width = f .width; used = f .used; allowed = f .allowed; sort = f .sort; after = t }
-
--- an id into section k
-abbrev pub idOf : ℕ → (Seen → Bool) → (Seen → ℕ → Bool) → Field
-idOf k u a = naming (λ c. id k) (u16 u a)
+telling t f = record { width = f .width; used = f .used; allowed = f .allowed; after = t }
 
 abbrev pub bufferOrNone : Field
-bufferOrNone = telling noneKnown (naming (λ c. idOrNone 1) (u16 triangles any))
+bufferOrNone = telling noneKnown (u16 triangles any)
 
 abbrev pub presentByte : (Seen → Bool) → Field
 presentByte u = telling tagKnown (u8 u bit)
@@ -176,7 +162,7 @@ declaredGeometries =
     record {
       most = 512;
       fields =
-          telling kindKnown (idOf 2 always inside)
+          telling kindKnown (u16 always inside)
           ∷ u8 always any
           ∷ u32 always any
           ∷ u8 triangles any
@@ -198,7 +184,7 @@ tlases =
 
 -- "5. Entries: Blas u16, kind u8, geometry count u16, drawn in turn from section 6"
 abbrev pub entries : Layout
-entries = record { most = 64; fields = idOf 2 always any ∷ u8 always bit ∷ u16 always any ∷ [] }
+entries = record { most = 64; fields = u16 always any ∷ u8 always bit ∷ u16 always any ∷ [] }
 
 -- "6. Geometries: flags u8, count u32, first vertex or primitive offset u32, stride u64, buffer u16, vertex format u8, index format u8,
 -- index buffer u16, present u8, index count u32, present u8, first index u32, transform buffer u16, present u8, transform offset u64"
@@ -211,7 +197,7 @@ geometries =
           ∷ u32 always any
           ∷ u32 always any
           ∷ u64 always any
-          ∷ idOf 1 always notNone
+          ∷ u16 always notNone
           ∷ u8 triangles any
           ∷ u8 triangles (upTo 2)
           ∷ bufferOrNone
@@ -227,7 +213,7 @@ geometries =
 
 -- "7. Packages: Tlas u16, slot count u16, drawn from section 8"
 abbrev pub packages : Layout
-packages = record { most = 32; fields = idOf 4 always any ∷ u16 always any ∷ [] }
+packages = record { most = 32; fields = u16 always any ∷ u16 always any ∷ [] }
 
 -- "8. Slots: present u8, Blas u16, custom data u32, mask u8, twelve f32, each a field"
 abbrev pub slots : Layout
@@ -236,20 +222,16 @@ slots =
       most = 512;
       fields =
           presentByte always
-          ∷ idOf 2 (present always) any
+          ∷ u16 (present always) any
           ∷ u32 (present always) any
           ∷ u8 (present always) any
           ∷ replicate 12 (u32 (present always) any);
     }
 
--- 3 marks a Blas; 2 and 4 use and mark a Tlas
-abbrev pub operandOf : Seen → Sort
-operandOf c = cond (eqb (c .tag) 3) (id 2) (id 4)
-
 -- "9. Actions: kind u8, operand u16: 1 the recorded build, 2 use of a Tlas, 3 mark of one Blas, 4 mark of one Tlas"
 abbrev pub actions : Layout
 actions =
-    record { most = 64; fields = telling tagKnown (u8 always (oneTo 4)) ∷ naming operandOf (u16 withOperand any) ∷ [] }
+    record { most = 64; fields = telling tagKnown (u8 always (oneTo 4)) ∷ u16 withOperand any ∷ [] }
 
 -- the sections by number; the header stands as section 0
 abbrev pub layout : ℕ → Layout

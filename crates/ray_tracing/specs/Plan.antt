@@ -144,14 +144,12 @@ slotPresent slots s = presentAt slots (s * size 8)
 abbrev pub slotBlas : List ℕ → ℕ → ℕ
 slotBlas slots s = fieldAt 8 slots (s * size 8) 1
 
-abbrev pub slotCustomData : List ℕ → ℕ → ℕ
-slotCustomData slots s = fieldAt 8 slots (s * size 8) 2
-
 -- "A Blas's list is its records in order": of the n declared geometries from i on, those of the Blas
 unfoldable pub declaredFrom : List ℕ → ℕ → ℕ → ℕ → List BlasGeometrySizeDescriptor
 declaredFrom t blas i zero = []
 declaredFrom t blas i (suc n) =
-    cond (eqb (fieldAt 3 t (i * size 3) 0) blas) (declaredAt t (i * size 3) ∷ declaredFrom t blas (i + 1) n) (declaredFrom t blas (i + 1) n)
+    cond (eqb (fieldAt 3 t (i * size 3) 0) blas) (declaredAt t (i * size 3) ∷ declaredFrom t blas (i + 1) n)
+    (declaredFrom t blas (i + 1) n)
 
 -- the j-th of a list, if it has so many
 abbrev pub nth : List BlasGeometrySizeDescriptor → ℕ → Option BlasGeometrySizeDescriptor
@@ -225,7 +223,7 @@ checkedAt x i j g =
     (bufferOf (x .buffers) (geometryOf x g .buffer .0)))
 
 abbrev pub checkedE : ℕ → ℕ → checks.Checked → Verdict
-checkedE i j (checks.asks l) = passed
+checkedE i j (checks.asks r) = passed
 checkedE i j (checks.refused c) = refused i j c
 
 abbrev pub judgeEntry : Tables → ℕ → ℕ → Verdict
@@ -331,9 +329,9 @@ stagingFrom x start p s (suc n) =
     ∷ (start + 64 * presentOf (x .slots) s (slotCount x p))
     ∷ stagingFrom x (start + 64 * presentOf (x .slots) s (slotCount x p)) (p + 1) (s + slotCount x p) n
 
--- the initialisation ranges as asked for: by the n geometries of entry i from the j-th on, and by n entries from i on
+-- the initialisation ranges as asked for, data, index, transform: by the n geometries of entry i from the j-th on, and by n entries from i on
 abbrev pub asked : checks.Checked → List ℕ
-asked (checks.asks l) = l
+asked (checks.asks r) = r .ofData ++ (r .ofIndices ++ r .ofTransform)
 asked (checks.refused c) = []
 
 unfoldable pub rangesOfEntry : Tables → ℕ → ℕ → ℕ → ℕ → List ℕ
@@ -430,7 +428,8 @@ unfoldable pub build : Tables → Outputs → Building
 build x o =
     unless (judgeTables x or judgeIds x or judgeEntries x or judgePackages x)
     (cond (eqb (scratchSize x) 0)
-    (unless (on (short (planOf x .«init_ranges») (o .«init_ranges»)) (refused 0 0 (bare 39))) (nothing-recorded (length (planOf x .«init_ranges»))))
+    (unless (on (short (planOf x .«init_ranges») (o .«init_ranges»)) (refused 0 0 (bare 39)))
+    (nothing-recorded (length (planOf x .«init_ranges»))))
     (unless (judgeFinal x or on (tooShort (planOf x) o) (refused 0 0 (bare 39))) (recorded (scratchSize x) (countsOf (planOf x)))))
 
 -- "Lent output past what is written keeps its bytes"; a refusal leaves all as it was
@@ -447,16 +446,7 @@ written p o =
     }
 
 abbrev pub onlyRanges : Outputs → Outputs → Outputs
-onlyRanges p o =
-    record {
-      «blas_offsets» = o .«blas_offsets»;
-      «tlas_offsets» = o .«tlas_offsets»;
-      «staging_ranges» = o .«staging_ranges»;
-      instances = o .instances;
-      «init_ranges» = sets (o .«init_ranges») 0 (p .«init_ranges»);
-      compactable = o .compactable;
-      lists = o .lists;
-    }
+onlyRanges p o = written (outputsOf [] [] [] [] (p .«init_ranges») [] []) o
 
 abbrev pub leaves : Building → Outputs → Outputs → Outputs
 leaves (recorded n w) p o = written p o

@@ -17,7 +17,7 @@ use Rattle.ray_tracing.specs.declared.Validated.{Validated}
 use Rattle.ray_tracing.specs.Layout.{layout, size, placeOf, widthOf}
 use Rattle.ray_tracing.specs.Mentions.{blasMention, tlasMention, blasOf, tlasOf}
 use Rattle.ray_tracing.specs.Reading as reading
-use Rattle.ray_tracing.specs.Causes.{Cause, cause, bare, submissionCause}
+use Rattle.ray_tracing.specs.Causes.{Cause, cause, unbuiltInUse, bare, submissionCause}
 
 infixr 30 _orElse_
 infix 20 _leaving_
@@ -332,7 +332,7 @@ buildTlases n (p ∷ ps) l =
 -- 42 gives Tlas, Blas; 44 Blas, Tlas; 21 Blas
 abbrev pub unusableBlas : Lent → ℕ → ℕ → Option Cause
 unusableBlas l t b =
-    causeWhen (eqb (blas l b .«built_index») 0) (cause 42 t b 0)
+    causeWhen (eqb (blas l b .«built_index») 0) (unbuiltInUse t b)
     orElse causeWhen (ltb (tlas l t .«built_index») (blas l b .«built_index»)) (cause 44 b t 0)
     orElse causeWhen (eqb (blas l b .destroyed) 1) (cause 21 b 0 0)
 
@@ -409,8 +409,9 @@ numbersOf v = record { number = v .number; action = v .action; first = v .first;
 
 -- "`CommandIndices` is lent by `&mut` and its counter stepped there; `active_submission_index` never moves": a call with the indices i before
 -- it and j after it
-pub record Validates (i : CommandIndices) (x : Buffers) (p : Piece) (v : Validated) (j : CommandIndices) (y : Buffers) : Type 0 where
-  pub shows :
-      record { numbers = numbersOf v; counter = j .«next_acceleration_structure_build_command_index»; left = y }
-      ≡ shown (submission (lentWith (i .«next_acceleration_structure_build_command_index») x) (decode p))
-  pub unmoved : j .«active_submission_index» ≡ i .«active_submission_index»
+pub record Validates (i : CommandIndices) (x : Buffers) (p : Piece) (v : Validated) (j : CommandIndices) (y : Buffers) : Type 0
+  where
+    pub shows :
+        record { numbers = numbersOf v; counter = j .«next_acceleration_structure_build_command_index»; left = y }
+        ≡ shown (submission (lentWith (i .«next_acceleration_structure_build_command_index») x) (decode p))
+    pub unmoved : j .«active_submission_index» ≡ i .«active_submission_index»

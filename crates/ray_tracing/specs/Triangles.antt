@@ -12,7 +12,7 @@ use Rattle.ray_tracing.specs.declared.BlasGeometry.{BlasGeometry}
 use Rattle.ray_tracing.specs.declared.BlasGeometrySizeDescriptor.{BlasGeometrySizeDescriptor}
 use Rattle.ray_tracing.specs.Causes.{Cause, cause, bare}
 use Rattle.ray_tracing.specs.Guard.{refuse, neb}
-use Rattle.ray_tracing.specs.Checks.{Checked, asks, refused, _then_, range, limit32, usableBuffer}
+use Rattle.ray_tracing.specs.Checks.{Checked, asks, refused, _then_, range, ranges, limit32, usableBuffer}
 
 -- 12 flags differ; 13 vertex count above declared, 14 format differs; 15 stride below least, 16 not a multiple
 abbrev pub descriptorRule : BlasGeometrySizeDescriptor → BlasGeometry → Checked
@@ -21,7 +21,8 @@ descriptorRule d g =
     (refuse (ltb (d .count) (g .count)) (refused (cause 13 (d .count) (g .count) 0))
     (refuse (neb (d .«vertex_format») (g .«vertex_format»)) (refused (cause 14 (d .«vertex_format») (g .«vertex_format») 0))
     (refuse (ltb (g .stride) (d .«min_vertex_stride»)) (refused (cause 15 (d .«min_vertex_stride») (g .stride) 0))
-    (refuse (neb (g .stride % d .«stride_alignment») 0) (refused (cause 16 (d .«stride_alignment») (g .stride) 0)) (asks [])))))
+    (refuse (neb (g .stride % d .«stride_alignment») 0) (refused (cause 16 (d .«stride_alignment») (g .stride) 0))
+    (asks (ranges [] [] []))))))
 
 -- 17 index count on one side only; 18 index count above, 19 format differs; 20 declared, no buffer
 abbrev pub indexSizesRule : BlasGeometrySizeDescriptor → BlasGeometry → Bool → Checked
@@ -31,7 +32,7 @@ indexSizesRule d g has-buffer =
     (neb (d .«index_count_present») 0 && ltb (d .«index_count») (g .«index_count»))
     (refused (cause 18 (d .«index_count») (g .«index_count») 0))
     (refuse (neb (d .«index_format») (g .«index_format»)) (refused (cause 19 (d .«index_format») (g .«index_format») 0))
-    (refuse (neb (d .«index_count_present») 0 && not has-buffer) (refused (bare 20)) (asks []))))
+    (refuse (neb (d .«index_count_present») 0 && not has-buffer) (refused (bare 20)) (asks (ranges [] [] [])))))
 
 -- "data buffer 21, 22, 23 (first vertex plus count, times stride, above its size)"; 23 gives offset, region, size
 abbrev pub verticesRule : BlasGeometry → Buffer → Checked
@@ -40,7 +41,7 @@ verticesRule g b =
     (refuse
     (ltb (b .size) ((g .first + g .count) * g .stride))
     (refused (cause 23 (stopped (g .first * g .stride)) (stopped (g .count * g .stride)) (b .size)))
-    (asks (range (g .buffer .0) (g .first * g .stride) (g .count * g .stride))))
+    (asks (ranges (range (g .buffer .0) (g .first * g .stride) (g .count * g .stride)) [] [])))
 
 -- "index format u8 (0 none, 1 two-byte, 2 four-byte)"
 abbrev pub indexWidth : ℕ → ℕ
@@ -55,7 +56,7 @@ indexRegionRule g width b =
     (refuse
     (ltb (b .size) (g .«first_index» * width + g .«index_count» * width))
     (refused (cause 23 (g .«first_index» * width) (g .«index_count» * width) (b .size)))
-    (asks (range (g .«index_buffer» .0) (g .«first_index» * width) (g .«index_count» * width))))))
+    (asks (ranges [] (range (g .«index_buffer» .0) (g .«first_index» * width) (g .«index_count» * width)) [])))))
 
 -- "24, 21, 22, 25", then the region
 abbrev pub indicesRule : BlasGeometry → ℕ → Buffer → Checked
@@ -78,7 +79,7 @@ transformRule flags g b =
     (refuse
     (ltb (b .size) (g .«transform_buffer_offset» + 48))
     (refused (cause 23 (g .«transform_buffer_offset») 48 (b .size)))
-    (asks (range (g .«transform_buffer» .0) (g .«transform_buffer_offset») 48)))))))
+    (asks (ranges [] [] (range (g .«transform_buffer» .0) (g .«transform_buffer_offset») 48))))))))
 
 -- "Only index and transform buffers may be 65535, none": the buffer of an id, if it is one
 abbrev pub unlessNone : (ℕ → Buffer) → ℕ → Option Buffer
@@ -89,12 +90,12 @@ isLent none = false
 isLent (some b) = true
 
 abbrev pub indexPart : BlasGeometry → Option Buffer → Checked
-indexPart g none = asks []
+indexPart g none = asks (ranges [] [] [])
 indexPart g (some b) = indicesRule g (indexWidth (g .«index_format»)) b
 
 -- without a transform buffer, 30: flagged, absent
 abbrev pub transformPart : ℕ → BlasGeometry → Option Buffer → Checked
-transformPart flags g none = refuse (neb (flags % 2) 0) (refused (bare 30)) (asks [])
+transformPart flags g none = refuse (neb (flags % 2) 0) (refused (bare 30)) (asks (ranges [] [] []))
 transformPart flags g (some b) = transformRule flags g b
 
 -- 11 more geometries than declared: d is what the Blas declares for this geometry, if it does
@@ -103,7 +104,8 @@ declaredRule none f = refused (bare 11)
 declaredRule (some d) f = f d
 
 -- 10 kind mismatch, and the rest in order; flag 1 is USE_TRANSFORM
-abbrev pub trianglesRule : Blas → Option BlasGeometrySizeDescriptor → BlasGeometry → Buffer → Option Buffer → Option Buffer → Checked
+abbrev pub trianglesRule : Blas → Option BlasGeometrySizeDescriptor → BlasGeometry → Buffer → Option Buffer → Option Buffer
+    → Checked
 trianglesRule blas declared g vertices index transform =
     refuse (neb (blas .kind) 0) (refused (bare 10))
     (declaredRule declared

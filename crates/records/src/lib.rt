@@ -1,5 +1,7 @@
 // A record of a lent table by value, a mention of one, and what an entry or a package names and draws: what the definitions in
 // ray_tracing/specs/Records.antt and Mentions.antt say.
+use ray_tracing::BLAS_SIZE;
+use ray_tracing::BUFFER_SIZE;
 use ray_tracing::Blas;
 use ray_tracing::BlasBuildEntry;
 use ray_tracing::BlasGeometry;
@@ -10,6 +12,7 @@ use ray_tracing::BufferId;
 use ray_tracing::ENTRY_SIZE;
 use ray_tracing::Mentioned;
 use ray_tracing::PACKAGE_SIZE;
+use ray_tracing::TLAS_SIZE;
 use ray_tracing::Tlas;
 use ray_tracing::TlasId;
 use ray_tracing::TlasPackage;
@@ -26,11 +29,14 @@ ghost use Rattle.ray_tracing.specs.Mentions.{bufferMention, blasMention, tlasMe
 ghost use Rattle.ray_tracing.specs.Triangles.{indexWidth};
 ghost use Rattle.ray_tracing.specs.Code.{mentionOf};
 
+// The bytes of a geometry's transform.
+pub const TRANSFORM_SIZE: u64 = 48;
+
 // A mention of an id, which is a number until it is judged here: one function for each sort.
 pub fn buffer_mention(table: &[u8], id: usize) -> Mentioned
     ensures { λ r. ⌜ mentionOf r ≡ bufferMention (now (table .entry)) id ⌝ }
 {
-    if table.len() / 9 <= id {
+    if table.len() / BUFFER_SIZE <= id {
         return Mentioned::InvalidResource;
     }
     Mentioned::Inside
@@ -39,7 +45,7 @@ pub fn buffer_mention(table: &[u8], id: usize) -> Mentioned
 pub fn blas_mention(table: &[u8], id: usize) -> Mentioned
     ensures { λ r. ⌜ mentionOf r ≡ blasMention (now (table .entry)) id ⌝ }
 {
-    if table.len() / 28 <= id {
+    if table.len() / BLAS_SIZE <= id {
         return Mentioned::InvalidResource;
     }
     Mentioned::Inside
@@ -48,7 +54,7 @@ pub fn blas_mention(table: &[u8], id: usize) -> Mentioned
 pub fn tlas_mention(table: &[u8], id: usize) -> Mentioned
     ensures { λ r. ⌜ mentionOf r ≡ tlasMention (now (table .entry)) id ⌝ }
 {
-    if table.len() / 22 <= id {
+    if table.len() / TLAS_SIZE <= id {
         return Mentioned::InvalidResource;
     }
     Mentioned::Inside
@@ -159,20 +165,22 @@ pub fn package_at(table: &[u8], at: usize) -> TlasPackage
 
 // The Blas of entry i.
 pub fn blas_of_entry(blases: &[u8], entries: &[u8], i: usize) -> Blas
-    requires { ⌜ (i * size 5 + size 5 ≤ length (now entries)) × (entryAt (now entries) (i * size 5) .blas .0 < length (now blases) / size 2) ⌝ }
+    requires { ⌜ i * size 5 + size 5 ≤ length (now entries) ⌝ }
+    requires { ⌜ entryAt (now entries) (i * size 5) .blas .0 < length (now blases) / size 2 ⌝ }
     ensures { λ r. ⌜ r ≡ blasOf (now (blases .entry)) (entryAt (now (entries .entry)) (i * size 5) .blas .0) ⌝ }
 {
-    let id = entry_at(entries, i * 5).blas;
-    blas_at(blases, id.0 as usize * 28)
+    let id = entry_at(entries, i * ENTRY_SIZE).blas;
+    blas_at(blases, id.0 as usize * BLAS_SIZE)
 }
 
 // The Tlas of package p.
 pub fn tlas_of_package(tlases: &[u8], packages: &[u8], p: usize) -> Tlas
-    requires { ⌜ (p * size 7 + size 7 ≤ length (now packages)) × (packageAt (now packages) (p * size 7) .tlas .0 < length (now tlases) / size 4) ⌝ }
+    requires { ⌜ p * size 7 + size 7 ≤ length (now packages) ⌝ }
+    requires { ⌜ packageAt (now packages) (p * size 7) .tlas .0 < length (now tlases) / size 4 ⌝ }
     ensures { λ r. ⌜ r ≡ tlasOf (now (tlases .entry)) (packageAt (now (packages .entry)) (p * size 7) .tlas .0) ⌝ }
 {
-    let id = package_at(packages, p * 4).tlas;
-    tlas_at(tlases, id.0 as usize * 22)
+    let id = package_at(packages, p * PACKAGE_SIZE).tlas;
+    tlas_at(tlases, id.0 as usize * TLAS_SIZE)
 }
 
 // How many geometries entry i draws.

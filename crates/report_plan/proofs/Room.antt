@@ -15,7 +15,7 @@ use Rattle.ray_tracing.specs.declared.BlasGeometry.{BlasGeometry}
 use Rattle.ray_tracing.specs.declared.BlasGeometrySizeDescriptor.{BlasGeometrySizeDescriptor}
 use Rattle.ray_tracing.specs.Guard.{refuse}
 use Rattle.ray_tracing.specs.Causes.{Cause, bare}
-use Rattle.ray_tracing.specs.Checks.{Checked, asks, refused, _then_, usableBuffer}
+use Rattle.ray_tracing.specs.Checks.{Checked, asks, ranges, refused, _then_, usableBuffer}
 use Rattle.ray_tracing.specs.Triangles.{unlessNone, descriptorRule, indexSizesRule, verticesRule, indexWidth, indexRegionRule, indicesRule, transformRule, isLent, indexPart, transformPart, trianglesRule}
 use Rattle.ray_tracing.specs.Boxes.{boxesRule}
 use Rattle.ray_tracing.specs.Mentions.{bufferOf}
@@ -76,7 +76,10 @@ refuse-few n true c d h = omega arith
 refuse-few n false c d h = h
 
 then-few : (m n : ℕ) (c d : Checked) → Few m c → Few n d → Few (m + n) (c then d)
-then-few m n (asks a) (asks b) h k = simp length-append (omega arith)
+then-few m n (asks a) (asks b) h k =
+    let p = simp length-append at h in
+    let q = simp length-append at k in
+    simp length-append (omega arith)
 then-few m n (asks a) (refused c) h k = omega arith
 then-few m n (refused c) d h k = omega arith
 
@@ -85,10 +88,10 @@ usable-few n id b d h = refuse-few n _ _ _ (refuse-few n _ _ _ h)
 
 descriptor-few : (d : BlasGeometrySizeDescriptor) (g : BlasGeometry) → Few 0 (descriptorRule d g)
 descriptor-few d g =
-    refuse-few 0 _ _ _ (refuse-few 0 _ _ _ (refuse-few 0 _ _ _ (refuse-few 0 _ _ _ (refuse-few 0 _ _ (asks []) (omega arith)))))
+    refuse-few 0 _ _ _ (refuse-few 0 _ _ _ (refuse-few 0 _ _ _ (refuse-few 0 _ _ _ (refuse-few 0 _ _ (asks (ranges [] [] [])) (omega arith)))))
 
 index-sizes-few : (d : BlasGeometrySizeDescriptor) (g : BlasGeometry) (b : Bool) → Few 0 (indexSizesRule d g b)
-index-sizes-few d g b = refuse-few 0 _ _ _ (refuse-few 0 _ _ _ (refuse-few 0 _ _ _ (refuse-few 0 _ _ (asks []) (omega arith))))
+index-sizes-few d g b = refuse-few 0 _ _ _ (refuse-few 0 _ _ _ (refuse-few 0 _ _ _ (refuse-few 0 _ _ (asks (ranges [] [] [])) (omega arith))))
 
 vertices-few : (g : BlasGeometry) (b : Buffer) → Few 3 (verticesRule g b)
 vertices-few g b = usable-few 3 _ b _ (refuse-few 3 _ _ _ (omega arith))
@@ -111,7 +114,7 @@ index-part-few g none = omega arith
 index-part-few g (some b) = indices-few g (indexWidth (g .«index_format»)) b
 
 transform-part-few : (flags : ℕ) (g : BlasGeometry) (b : Option Buffer) → Few 3 (transformPart flags g b)
-transform-part-few flags g none = refuse-few 3 _ _ (asks []) (omega arith)
+transform-part-few flags g none = refuse-few 3 _ _ (asks (ranges [] [] [])) (omega arith)
 transform-part-few flags g (some b) = transform-few flags g b
 
 triangles-few :

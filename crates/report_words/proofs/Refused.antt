@@ -9,7 +9,8 @@ use Rattle.ray_tracing.specs.declared.BuildAccelerationStructureError.the-varia
 use Rattle.ray_tracing.specs.declared.ValidateAsActionsError.{ValidateAsActionsError}
 use Rattle.ray_tracing.specs.declared.ValidateAsActionsError.the-variants as submission
 use Rattle.ray_tracing.specs.Causes.{sheetNumber, buildCause, submissionCause}
-use Rattle.ray_tracing.specs.Explain.{nothing, of-sheet, of-build, of-action, wordsOf}
+use Rattle.causes.specs.Figures.{plainly}
+use Rattle.ray_tracing.specs.Explain.{nothing, of-sheet, of-build, of-action, explanation, wordsOf}
 use Rattle.report_words.specs.declared.Refusal.{Refusal}
 use Rattle.report_words.specs.Refused.{refusedBy, toldOf, Refuses}
 
@@ -65,8 +66,8 @@ build-told build.OutputTooShort e g = record { numbers = refl; words = refl }
 
 pub action-told :
     (error : ValidateAsActionsError) (i kind : ℕ)
-    → Refuses (refusedBy 3 i kind (submissionCause error)) (of-action i kind (submissionCause error))
-unfolding wordsOf
+    → Refuses (refusedBy 3 i kind (plainly (submissionCause error))) (of-action i kind (submissionCause error))
+unfolding wordsOf explanation
 action-told submission.TooMany i kind = record { numbers = refl; words = refl }
 action-told submission.InvalidValue i kind = record { numbers = refl; words = refl }
 action-told submission.InvalidResource i kind = record { numbers = refl; words = refl }

@@ -19,14 +19,14 @@ use Rattle.ray_tracing.specs.Submission.{
   shown,
   Buffers,
 }
-use Rattle.submit_checks.specs.Outcome.{causeOf, submittedOf}
+use Rattle.submit_checks.specs.Outcome.{checkedCause, submittedOf}
 use Rattle.submit.specs.Told.{numbersIn}
 use Rattle.submit.specs.declared.Numbered.{Numbered}
 use Rattle.submit_checks.specs.declared.Checked.{Checked}
 use Rattle.submit_checks.specs.declared.Checked.the-variants.{Refused}
 use Rattle.submit_checks.proofs.Walks.{refusal}
 
-pub submission-refused : (l : Lent) (acts : List Action) {x : Checked} {e : ValidateAsActionsError} → causeOf x ≡ judge l → x ≡ Refused e
+pub submission-refused : (l : Lent) (acts : List Action) {x : Checked} {e : ValidateAsActionsError} → checkedCause x ≡ judge l → x ≡ Refused e
     → outcomeOf (submittedOf x 0 (l .counter)) (l .blases) (l .tlases) (l .dependencyCounts) (l .dependencies) ≡ submission l acts
 unfolding submission
 submission-refused l acts p q = rw (q, refusal p q)

@@ -10,4 +10,5 @@ numbersIn v = record { number = v .number; action = v .action; first = v .first;
 -- a call of `submit_numbers`: lent the counter n, the buffers x and the piece p, it told v and left y
 abbrev pub Tells : ℕ → Buffers → Piece → Numbered → Buffers → Type 0
 Tells n x p v y =
-    _≡_ {A = Shown} (record { numbers = numbersIn v; counter = v .counter; left = y }) (shown (submission (lentWith n x) (decode p)))
+    _≡_ {A = Shown} (record { numbers = numbersIn v; counter = v .counter; left = y })
+    (shown (submission (lentWith n x) (decode p)))

@@ -10,7 +10,7 @@ use lib.Seq.{sets}
 use Rattle.ray_tracing.specs.declared.ValidateAsActionsError.{ValidateAsActionsError}
 use Rattle.ray_tracing.specs.Causes.{Cause}
 use Rattle.ray_tracing.specs.Submission.{Lent, Package, Outcome, accepted, _leaving_, _followedBy_, unlessCause, first, unnumbered, builtBlas, builtBlases, builtTlas, buildTlas, buildTlases, mostDependencies, lentOf}
-use Rattle.submit_checks.specs.Outcome.{causeOf, actedOf}
+use Rattle.submit_checks.specs.Outcome.{checkedCause, actedOf}
 use Rattle.submit_checks.specs.declared.Checked.{Checked}
 use Rattle.submit_checks.specs.declared.Checked.the-variants.{Fine, Refused}
 use Rattle.submit_checks.proofs.Walks.{rest-step, rest-done, refusal, nothing}
@@ -31,7 +31,7 @@ copy-done d at s k h = rw (rest-done s k h)
 
 -- ---- a Tlas of a Build
 
-module _ (n : ℕ) (p : Package) (l : Lent) {x : Checked} (k : causeOf x ≡ first (unnumbered l (p .tlas)) (p .dependencies)) where
+module _ (n : ℕ) (p : Package) (l : Lent) {x : Checked} (k : checkedCause x ≡ first (unnumbered l (p .tlas)) (p .dependencies)) where
   pub tlas-refused : {e : ValidateAsActionsError} → x ≡ Refused e → actedOf x l ≡ buildTlases n (p ∷ []) l
   unfolding buildTlases
   tlas-refused q = ap (λ (y : Checked). actedOf y l) q ∙ rw (refusal k q)

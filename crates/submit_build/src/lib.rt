@@ -21,7 +21,7 @@ ghost use lib.ListN.{length};
 ghost use lib.Seq.{sets};
 ghost use Rattle.ray_tracing.specs.Submission.{first, judge, packagesAt, packagesLent, buildAt, before, act};
 ghost use Rattle.ray_tracing.specs.Submission.{builtBlas, builtBlases, builtTlas, unnumbered, lentOf, lentWith, buffersOf};
-ghost use Rattle.submit_checks.specs.Outcome.{blasesOf, packageWith, stepped, causeOf, actedOf, BuildsTlases, Acts};
+ghost use Rattle.submit_checks.specs.Outcome.{blasesOf, packageWith, stepped, checkedCause, actedOf, BuildsTlases, Acts};
 ghost use Rattle.submit_checks.specs.Known.{blasesIn, tlasesIn, Inside, ListRoom, Listed, AllListed};
 
 // A Blas that a Build built.
@@ -68,7 +68,7 @@ fn put_list(cells: &mut [u16], at: usize, list: &[u16])
 // 42 of a Build.
 fn judge_numbers(blases: &[u8], tlas: TlasId, ids: &[u16]) -> Checked
     requires { ⌜ Inside (now ids) (blasesIn (now blases)) ⌝ }
-    ensures { λ r. ⌜ causeOf r ≡ first (unnumbered (blasesOf (now (blases .entry))) (tlas .0)) (now (ids .entry)) ⌝ }
+    ensures { λ r. ⌜ checkedCause r ≡ first (unnumbered (blasesOf (now (blases .entry))) (tlas .0)) (now (ids .entry)) ⌝ }
 {
     let mut k = 0;
     while k < ids.len() {

@@ -12,7 +12,7 @@ use Rattle.ray_tracing.specs.Causes.{Cause, bare}
 use Rattle.ray_tracing.specs.Submission.{Lent, Package, causeWhen, _orElse_, first, blasCount, tlasCount, mentionBlas, mentionTlas, mentionPackage, tooMany, compacted, packagesAt, packagesLent, Action, build, malformed, buildAt, before, mostDependencies}
 use Rattle.ray_tracing.proofs.Sound.{fit}
 use Rattle.ray_tracing.proofs.Firsts.{or-none, inside, within}
-use Rattle.submit_checks.specs.Outcome.{causeOf}
+use Rattle.submit_checks.specs.Outcome.{checkedCause}
 use Rattle.submit_checks.specs.Known.{Inside, Listed, AllListed}
 use Rattle.submit_checks.specs.declared.Checked.{Checked}
 use Rattle.submit_checks.specs.declared.Checked.the-variants.{Fine, Refused}
@@ -54,12 +54,12 @@ module _ (l : Lent) (bs : List ℕ) (ps : List Package) where
   unfolding before
   in-order h = rw (le-ltb _ _ h, or-assoc (first (mentionBlas l) bs) (first (mentionPackage l) ps) (causeWhen (eqb (l .counter) 0) (bare 40) orElse first (compacted l) bs))
 
-  module _ (h : length bs ≤ 64) {x : Checked} (p : causeOf x ≡ tooMany [] ps) where
-    pub refused-4 : {e : ValidateAsActionsError} → x ≡ Refused e → causeOf x ≡ before l (build bs ps)
+  module _ (h : length bs ≤ 64) {x : Checked} (p : checkedCause x ≡ tooMany [] ps) where
+    pub refused-4 : {e : ValidateAsActionsError} → x ≡ Refused e → checkedCause x ≡ before l (build bs ps)
     refused-4 q = or-stop _ p q ∙ sym (in-order h)
 
-    module _ (q : x ≡ Fine) {y : Checked} (r : causeOf y ≡ (first (mentionBlas l) bs orElse first (mentionPackage l) ps)) where
-      pub refused-6 : {e : ValidateAsActionsError} → y ≡ Refused e → causeOf y ≡ before l (build bs ps)
+    module _ (q : x ≡ Fine) {y : Checked} (r : checkedCause y ≡ (first (mentionBlas l) bs orElse first (mentionPackage l) ps)) where
+      pub refused-6 : {e : ValidateAsActionsError} → y ≡ Refused e → checkedCause y ≡ before l (build bs ps)
       refused-6 s = or-pass p q (or-stop _ r s) ∙ sym (in-order h)
 
       module _ (s : y ≡ Fine) where

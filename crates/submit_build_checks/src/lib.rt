@@ -14,7 +14,7 @@ ghost use Prim.Native.Nat.{_+_, _^_, _≤_, _<_};
 ghost use lib.ListN.{length};
 ghost use Rattle.ray_tracing.specs.Submission.{first, _orElse_, mentionBlas, mentionPackage, tooMany, compacted, before, lentOf};
 ghost use Rattle.ray_tracing.specs.Submission.{packageFrom, pastPackage, packagesAt, packagesLent, build, buildAt};
-ghost use Rattle.submit_checks.specs.Outcome.{tablesOnly, blasesOf, causeOf};
+ghost use Rattle.submit_checks.specs.Outcome.{tablesOnly, blasesOf, checkedCause};
 ghost use Rattle.submit_checks.specs.Known.{blasesIn, Inside};
 
 // The most that a Build lists.
@@ -46,7 +46,7 @@ fn packages_lent(lists: &[u16], start: usize, tlas_count: usize) -> bool
 // 4, but for the Blases.
 fn judge_counts(lists: &[u16], start: usize, tlas_count: usize) -> Checked
     requires { ⌜ packagesLent (now lists) start «tlas_count» ≡ true ⌝ }
-    ensures { λ r. ⌜ causeOf r ≡ tooMany [] (packagesAt (now (lists .entry)) start «tlas_count») ⌝ }
+    ensures { λ r. ⌜ checkedCause r ≡ tooMany [] (packagesAt (now (lists .entry)) start «tlas_count») ⌝ }
 {
     if MOST_TLASES < tlas_count {
         return Checked::Refused(ValidateAsActionsError::TooMany);
@@ -67,7 +67,7 @@ fn judge_counts(lists: &[u16], start: usize, tlas_count: usize) -> Checked
 // 6 of one Tlas and its list.
 fn judge_package(blases: &[u8], tlases: &[u8], lists: &[u16], at: usize) -> Checked
     requires { ⌜ pastPackage (now lists) at ≤ length (now lists) ⌝ }
-    ensures { λ r. ⌜ causeOf r
+    ensures { λ r. ⌜ checkedCause r
         ≡ mentionPackage (tablesOnly (now (blases .entry)) (now (tlases .entry))) (packageFrom (now (lists .entry)) at) ⌝ }
 {
     let checked = judge_tlas(tlases, TlasId(lists[at]));
@@ -87,7 +87,7 @@ fn judge_packages(
     tlas_count: usize,
 ) -> Checked
     requires { ⌜ packagesLent (now lists) start «tlas_count» ≡ true ⌝ }
-    ensures { λ r. ⌜ causeOf r
+    ensures { λ r. ⌜ checkedCause r
         ≡ first (mentionPackage (tablesOnly (now (blases .entry)) (now (tlases .entry))))
         (packagesAt (now (lists .entry)) start «tlas_count») ⌝ }
 {
@@ -107,7 +107,7 @@ fn judge_packages(
 // 41.
 fn judge_compacted(blases: &[u8], ids: &[u16]) -> Checked
     requires { ⌜ Inside (now ids) (blasesIn (now blases)) ⌝ }
-    ensures { λ r. ⌜ causeOf r ≡ first (compacted (blasesOf (now (blases .entry)))) (now (ids .entry)) ⌝ }
+    ensures { λ r. ⌜ checkedCause r ≡ first (compacted (blasesOf (now (blases .entry)))) (now (ids .entry)) ⌝ }
 {
     let mut k = 0;
     while k < ids.len() {
@@ -131,7 +131,7 @@ fn judge_mentions(
     tlas_count: usize,
 ) -> Checked
     requires { ⌜ packagesLent (now lists) at «tlas_count» ≡ true ⌝ }
-    ensures { λ r. ⌜ causeOf r
+    ensures { λ r. ⌜ checkedCause r
         ≡ (first (mentionBlas (blasesOf (now (blases .entry)))) (now (ids .entry))
         orElse first (mentionPackage (tablesOnly (now (blases .entry)) (now (tlases .entry))))
         (packagesAt (now (lists .entry)) at «tlas_count»)) ⌝ }
@@ -154,7 +154,7 @@ fn judge_whole_build(
     tlas_count: usize,
 ) -> Checked
     requires { ⌜ packagesLent (now lists) at «tlas_count» ≡ true ⌝ }
-    ensures { λ r. ⌜ causeOf r
+    ensures { λ r. ⌜ checkedCause r
         ≡ before (lentOf counter (now (blases .entry)) (now (tlases .entry)) [] [])
         (build (now (ids .entry)) (packagesAt (now (lists .entry)) at «tlas_count»)) ⌝ }
 {
@@ -186,7 +186,7 @@ pub fn judge_build_action(
     tlas_count: usize,
 ) -> Checked
     requires { ⌜ start + «blas_count» < 2 ^ 64 ⌝ }
-    ensures { λ r. ⌜ causeOf r
+    ensures { λ r. ⌜ checkedCause r
         ≡ before (lentOf counter (now (blases .entry)) (now (tlases .entry)) [] [])
         (buildAt (now (lists .entry)) start «blas_count» «tlas_count») ⌝ }
 {

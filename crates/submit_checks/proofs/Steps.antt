@@ -6,7 +6,7 @@ use Prim.Native.Nat.{ℕ}
 use native.Mathlib.Nat.{add-zero}
 use Rattle.ray_tracing.specs.declared.ValidateAsActionsError.{ValidateAsActionsError}
 use Rattle.ray_tracing.specs.Submission.{Lent, Action, build, useTlas, malformed, later, before, act, step, outcomeOf, lentOf}
-use Rattle.submit_checks.specs.Outcome.{causeOf, actedOf, submittedOf}
+use Rattle.submit_checks.specs.Outcome.{checkedCause, actedOf, submittedOf}
 use Rattle.submit_checks.specs.declared.Checked.{Checked}
 use Rattle.submit_checks.specs.declared.Checked.the-variants.{Fine, Refused}
 use Rattle.submit_checks.proofs.Walks.{refusal}
@@ -26,7 +26,7 @@ at-index Fine i n b t c d = refl
 at-index (Refused e) i n b t c d = rw add-zero
 
 module _ (l : Lent) (a : Action) (i : ℕ) (x : Checked) where
-  pub step-refused : {e : ValidateAsActionsError} → causeOf x ≡ before l a → x ≡ Refused e
+  pub step-refused : {e : ValidateAsActionsError} → checkedCause x ≡ before l a → x ≡ Refused e
       → outcomeOf (submittedOf x i (l .counter)) (l .blases) (l .tlases) (l .dependencyCounts) (l .dependencies) ≡ later i (step l a)
   unfolding step
   step-refused p q =

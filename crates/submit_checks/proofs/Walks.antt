@@ -14,7 +14,7 @@ use Rattle.ray_tracing.specs.Code.{mentionOf}
 use Rattle.ray_tracing.specs.Causes.{Cause, bare, submissionCause}
 use Rattle.ray_tracing.specs.Submission as Submission
 use Rattle.ray_tracing.specs.Submission.{_orElse_, first}
-use Rattle.submit_checks.specs.Outcome.{causeOf}
+use Rattle.submit_checks.specs.Outcome.{checkedCause}
 use Rattle.submit_checks.specs.declared.Checked.{Checked}
 use Rattle.submit_checks.specs.declared.Checked.the-variants.{Fine, Refused}
 
@@ -37,11 +37,11 @@ rest-done l k h = drop-of-length-le l h
 -- ---- a search
 
 -- a refusal, or none, of what was judged
-pub refusal : {x : Checked} {o : Option Cause} {e : ValidateAsActionsError} → causeOf x ≡ o → x ≡ Refused e → o ≡ some (submissionCause e)
-refusal p q = sym p ∙ ap causeOf q
+pub refusal : {x : Checked} {o : Option Cause} {e : ValidateAsActionsError} → checkedCause x ≡ o → x ≡ Refused e → o ≡ some (submissionCause e)
+refusal p q = sym p ∙ ap checkedCause q
 
-pub nothing : {x : Checked} {o : Option Cause} → causeOf x ≡ o → x ≡ Fine → o ≡ none
-nothing p q = sym p ∙ ap causeOf q
+pub nothing : {x : Checked} {o : Option Cause} → checkedCause x ≡ o → x ≡ Fine → o ≡ none
+nothing p q = sym p ∙ ap checkedCause q
 
 -- y in front of what is left, by which the whole search goes
 module _ {A : Type 0} (f : A → Option Cause) {rest more : List A} {y : A} {o : Option Cause} where
@@ -51,10 +51,10 @@ module _ {A : Type 0} (f : A → Option Cause) {rest more : List A} {y : A} {o :
   pub passed : rest ≡ y ∷ more → first f rest ≡ o → f y ≡ none → first f more ≡ o
   passed r inv p = sym (rw (r, p)) ∙ inv
 
-  pub stops : {x : Checked} {e : ValidateAsActionsError} → rest ≡ y ∷ more → first f rest ≡ o → causeOf x ≡ f y → x ≡ Refused e → causeOf x ≡ o
-  stops r inv p q = ap causeOf q ∙ found r inv (refusal p q)
+  pub stops : {x : Checked} {e : ValidateAsActionsError} → rest ≡ y ∷ more → first f rest ≡ o → checkedCause x ≡ f y → x ≡ Refused e → checkedCause x ≡ o
+  stops r inv p q = ap checkedCause q ∙ found r inv (refusal p q)
 
-  pub goes-on : {x : Checked} → rest ≡ y ∷ more → first f rest ≡ o → causeOf x ≡ f y → x ≡ Fine → first f more ≡ o
+  pub goes-on : {x : Checked} → rest ≡ y ∷ more → first f rest ≡ o → checkedCause x ≡ f y → x ≡ Fine → first f more ≡ o
   goes-on r inv p q = passed r inv (nothing p q)
 
 pub ends : {A : Type 0} (f : A → Option Cause) {rest : List A} {o : Option Cause} → rest ≡ [] → first f rest ≡ o → none ≡ o
@@ -62,8 +62,8 @@ ends f r inv = ap (first f) (sym r) ∙ inv
 
 -- ---- the first of two
 
-pub or-stop : {x : Checked} {e : ValidateAsActionsError} {a : Option Cause} (b : Option Cause) → causeOf x ≡ a → x ≡ Refused e → causeOf x ≡ (a orElse b)
-or-stop b p q = ap causeOf q ∙ rw (refusal p q)
+pub or-stop : {x : Checked} {e : ValidateAsActionsError} {a : Option Cause} (b : Option Cause) → checkedCause x ≡ a → x ≡ Refused e → checkedCause x ≡ (a orElse b)
+or-stop b p q = ap checkedCause q ∙ rw (refusal p q)
 
-pub or-pass : {x : Checked} {a b o : Option Cause} → causeOf x ≡ a → x ≡ Fine → o ≡ b → o ≡ (a orElse b)
+pub or-pass : {x : Checked} {a b o : Option Cause} → checkedCause x ≡ a → x ≡ Fine → o ≡ b → o ≡ (a orElse b)
 or-pass p q r = rw (nothing p q) r

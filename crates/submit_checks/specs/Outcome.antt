@@ -40,9 +40,9 @@ abbrev pub stepped : ℕ → ℕ
 stepped n = (n + 1) % 2 ^ 64
 
 -- what judging finds
-abbrev pub causeOf : Checked → Option Cause
-causeOf checked.Fine = none
-causeOf (checked.Refused e) = some (submissionCause e)
+abbrev pub checkedCause : Checked → Option Cause
+checkedCause checked.Fine = none
+checkedCause (checked.Refused e) = some (submissionCause e)
 
 -- what one action comes to, and what it leaves
 abbrev pub actedOf : Checked → Lent → Outcome

@@ -13,7 +13,7 @@ ghost use mathlib.Core.Path.{_≡_};
 ghost use mathlib.Core.List.{[]};
 ghost use Prim.Native.Nat.{_<_};
 ghost use Rattle.ray_tracing.specs.Submission.{blas, first, mentionBlas, mentionTlas};
-ghost use Rattle.submit_checks.specs.Outcome.{tablesOnly, blasesOf, causeOf, submittedOf};
+ghost use Rattle.submit_checks.specs.Outcome.{tablesOnly, blasesOf, checkedCause, submittedOf};
 ghost use Rattle.submit_checks.specs.Known.{blasesIn};
 
 // What judging finds: nothing to refuse, or the first refusal.
@@ -24,7 +24,7 @@ pub enum Checked {
 
 // A mention of an id, judged.
 pub fn judge_blas(blases: &[u8], id: BlasId) -> Checked
-    ensures { λ r. ⌜ causeOf r ≡ mentionBlas (blasesOf (now (blases .entry))) (id .0) ⌝ }
+    ensures { λ r. ⌜ checkedCause r ≡ mentionBlas (blasesOf (now (blases .entry))) (id .0) ⌝ }
 {
     if let Mentioned::InvalidResource = blas_mention(blases, id.0 as usize) {
         return Checked::Refused(ValidateAsActionsError::InvalidResource);
@@ -33,7 +33,7 @@ pub fn judge_blas(blases: &[u8], id: BlasId) -> Checked
 }
 
 pub fn judge_tlas(tlases: &[u8], id: TlasId) -> Checked
-    ensures { λ r. ⌜ causeOf r ≡ mentionTlas (tablesOnly [] (now (tlases .entry))) (id .0) ⌝ }
+    ensures { λ r. ⌜ checkedCause r ≡ mentionTlas (tablesOnly [] (now (tlases .entry))) (id .0) ⌝ }
 {
     if let Mentioned::InvalidResource = tlas_mention(tlases, id.0 as usize) {
         return Checked::Refused(ValidateAsActionsError::InvalidResource);
@@ -42,7 +42,7 @@ pub fn judge_tlas(tlases: &[u8], id: TlasId) -> Checked
 }
 
 pub fn judge_ids(blases: &[u8], ids: &[u16]) -> Checked
-    ensures { λ r. ⌜ causeOf r ≡ first (mentionBlas (blasesOf (now (blases .entry)))) (now (ids .entry)) ⌝ }
+    ensures { λ r. ⌜ checkedCause r ≡ first (mentionBlas (blasesOf (now (blases .entry)))) (now (ids .entry)) ⌝ }
 {
     let mut k = 0;
     while k < ids.len() {

@@ -35,7 +35,7 @@ use Rattle.ray_tracing.specs.Submission.{
 }
 use Rattle.ray_tracing.proofs.Firsts.{or-none, on-none, within, outside}
 use Rattle.submit_checks.proofs.Start.{Ready}
-use Rattle.submit_run.specs.Operand.{largestId, operandCause}
+use Rattle.submit_run.specs.Cells.{largestId, operandCause}
 
 module _ (lists : List ℕ) (kind o b t : ℕ) where
   pub kind-build : kind ≡ 1 → action lists kind o b t ≡ buildAt lists o b t

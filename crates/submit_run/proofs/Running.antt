@@ -2,13 +2,19 @@
 -- leaves is again a start that is not refused.
 use mathlib.Core.Path.{_≡_, refl, sym, ap, _∙_}
 use mathlib.Core.List.{List, [], _∷_}
-use Prim.Native.Nat.{ℕ, _+_, _≤_}
+use mathlib.Core.Bool.{cond}
+use Prim.Native.Nat.{ℕ, _+_, _-_, _≤_, _<_}
+use native.Mathlib.Decide.{decLt}
+use native.Mathlib.Omega.{arith}
+use lib.Dec.{eqb}
+use borrow.Author.Tests.{eq-eqb, ne-eqb}
 use lib.ListN.{length, drop}
 use Rattle.ray_tracing.specs.declared.Submitted.{Submitted}
 use Rattle.ray_tracing.specs.declared.Submitted.the-variants as submitted
 use Rattle.ray_tracing.specs.declared.ValidateAsActionsError.{ValidateAsActionsError}
 use Rattle.ray_tracing.specs.Causes.{bare}
-use Rattle.ray_tracing.specs.Submission.{Lent, Action, malformed, decodeCells, Outcome, accepted, refused, _leaving_, left, _followedBy_, later, step, run, submission, outcomeOf, lentOf}
+use Rattle.ray_tracing.specs.Submission.{Lent, Action, malformed, decodeCells, Outcome, accepted, refused, _leaving_, left, _followedBy_, later, step, run, submission, answerOf, counterOf, outcomeOf, lentOf}
+use Rattle.ray_tracing.proofs.Decode.{decode-part, decode-done}
 use Rattle.ray_tracing.proofs.Firsts.{later-later, left-later}
 use Rattle.ray_tracing.proofs.Sound.{Sound, judged, sound-submission}
 use Rattle.submit_checks.specs.declared.Checked.the-variants.{Refused}
@@ -55,9 +61,21 @@ module _ (i : ℕ) (l : Lent) {a : Action} {rest more : List Action} {o : Outcom
       rw e at (sound-step l a h)
 
 -- a part of an action, and the end
-pub run-part : (i : ℕ) (l : Lent) {rest : List Action} {o : Outcome} → rest ≡ malformed ∷ [] → later i (run l rest) ≡ o → refused i (bare 5) leaving l ≡ o
+
+run-part : (i : ℕ) (l : Lent) {rest : List Action} {o : Outcome} → rest ≡ malformed ∷ [] → later i (run l rest) ≡ o → refused i (bare 5) leaving l ≡ o
 run-part i l s inv = sym (rw s (run-step i l malformed [] ∙ rw (← malformed-step l i refl))) ∙ inv
 
-pub run-done : (i : ℕ) (l : Lent) {rest : List Action} {o : Outcome} → rest ≡ [] → later i (run l rest) ≡ o → accepted leaving l ≡ o
+run-done : (i : ℕ) (l : Lent) {rest : List Action} {o : Outcome} → rest ≡ [] → later i (run l rest) ≡ o → accepted leaving l ≡ o
 unfolding run
 run-done i l s inv = sym (rw s) ∙ inv
+
+pub run-ends :
+    (i : ℕ) (l : Lent) (lists actions : List ℕ) (at : ℕ) {o : Outcome} → at ≤ length actions → length actions < at + 4
+    → later i (run l (decodeCells lists (drop at actions))) ≡ o → (x : Submitted)
+    → answerOf x ≡ cond (eqb (length actions - at) 0) accepted (refused i (bare 5)) → counterOf x ≡ l .counter
+    → outcomeOf x (l .blases) (l .tlases) (l .dependencyCounts) (l .dependencies) ≡ o
+run-ends i l lists actions at h k inv x p q =
+    elim (decLt at (length actions)) [
+      | yes m ↦ rw (p, q, ne-eqb (length actions - at) 0 (λ e. omega arith)) (run-part i l (decode-part lists actions at m k) inv)
+      | no m ↦ rw (p, q, eq-eqb (length actions - at) 0 (omega arith)) (run-done i l (decode-done lists actions at (omega arith)) inv)
+    ]

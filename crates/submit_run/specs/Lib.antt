@@ -1,1 +1,1 @@
-pub mod Operand
+pub mod Cells

@@ -9,19 +9,44 @@ use submit_checks::Checked;
 use submit_checks::submitted;
 use submit_use::use_action;
 ghost use mathlib.Core.Path.{_≡_};
+ghost use mathlib.Core.Bool.{cond};
 ghost use mathlib.Core.Option.{none};
+ghost use Prim.Native.Nat.{_+_, _≤_};
+ghost use lib.ListN.{length};
+ghost use lib.Dec.{eqb};
+ghost use Rattle.ray_tracing.specs.Causes.{bare};
 ghost use Rattle.ray_tracing.specs.Submission as Submission;
-ghost use Rattle.ray_tracing.specs.Submission.{judge, action, decode};
+ghost use Rattle.ray_tracing.specs.Submission.{judge, action, decode, accepted, refused, answerOf, counterOf};
 ghost use Rattle.ray_tracing.specs.Submission.{outcomeOf, lentOf, lentWith, pieceOf, buffersOf};
-ghost use Rattle.submit_checks.specs.Outcome.{causeOf, Acts};
-ghost use Rattle.submit_run.specs.Operand.{operandCause};
+ghost use Rattle.submit_checks.specs.Outcome.{checkedCause, Acts};
+ghost use Rattle.submit_run.specs.Cells.{cellsAt, operandCause};
 
 // An operand is a number until it is judged.
 const LARGEST_ID: u32 = 65535;
 
+// The four cells of an action.
+struct Cells {
+    kind: u32,
+    operand: u32,
+    blas_count: u32,
+    tlas_count: u32,
+}
+
+fn cells_at(actions: &[u32], at: usize) -> Cells
+    requires { ⌜ at + 4 ≤ length (now actions) ⌝ }
+    ensures { λ r. ⌜ r ≡ cellsAt (now (actions .entry)) at ⌝ }
+{
+    Cells {
+        kind: actions[at],
+        operand: actions[at + 1],
+        blas_count: actions[at + 2],
+        tlas_count: actions[at + 3],
+    }
+}
+
 // Of an action that is no Build: 5 of its kind, then 6 of an operand that no id is as large as.
 fn judge_operand(kind: u32, operand: u32) -> Checked
-    ensures { λ r. ⌜ causeOf r ≡ operandCause kind operand ⌝ }
+    ensures { λ r. ⌜ checkedCause r ≡ operandCause kind operand ⌝ }
 {
     if kind < 2 {
         return Checked::Refused(ValidateAsActionsError::InvalidValue);
@@ -43,10 +68,7 @@ fn step(
     dependency_counts: &mut [u16],
     dependencies: &mut [u16],
     lists: &[u16],
-    kind: u32,
-    operand: u32,
-    blas_count: u32,
-    tlas_count: u32,
+    cells: Cells,
     index: usize,
 ) -> Submitted
     requires { ⌜ judge (lentOf counter (now blases) (now tlases) (now «dependency_counts») (now dependencies)) ≡ none ⌝ }
@@ -54,10 +76,12 @@ fn step(
         counter
         (buffersOf (now (blases .entry)) (now (tlases .entry)) (now («dependency_counts» .entry)) (now (dependencies .entry)))
         index
-        (action (now (lists .entry)) kind operand «blas_count» «tlas_count»)
+        (action (now (lists .entry)) (cells .kind) (cells .operand) (cells .«blas_count») (cells .«tlas_count»))
         r
         (buffersOf (now (blases .exit)) (now (tlases .exit)) (now («dependency_counts» .exit)) (now (dependencies .exit))) ⌝ }
 {
+    let kind = cells.kind;
+    let operand = cells.operand;
     if kind == 1 {
         return build_action(
             counter,
@@ -67,8 +91,8 @@ fn step(
             dependencies,
             lists,
             operand as usize,
-            blas_count as usize,
-            tlas_count as usize,
+            cells.blas_count as usize,
+            cells.tlas_count as usize,
             index,
         );
     }
@@ -105,6 +129,16 @@ fn step(
     )
 }
 
+// Where no whole action is left: a part of one is none.
+fn ends(left: usize, index: usize, counter: u64) -> Submitted
+    ensures { λ r. ⌜ (answerOf r ≡ cond (eqb left 0) accepted (refused index (bare 5))) × (counterOf r ≡ counter) ⌝ }
+{
+    if left == 0 {
+        return Submitted::Accepted(counter);
+    }
+    Submitted::Refused(ValidateAsActionsError::InvalidValue, index, counter)
+}
+
 // The actions in turn, to the first that is refused.
 pub fn run(
     counter: u64,
@@ -125,10 +159,7 @@ pub fn run(
     let mut number = counter;
     let mut at = 0;
     let mut index = 0;
-    while at < actions.len() {
-        if actions.len() - at < 4 {
-            return Submitted::Refused(ValidateAsActionsError::InvalidValue, index, number);
-        }
+    while 4 <= actions.len() - at {
         let submitted = step(
             number,
             blases,
@@ -136,10 +167,7 @@ pub fn run(
             dependency_counts,
             dependencies,
             lists,
-            actions[at],
-            actions[at + 1],
-            actions[at + 2],
-            actions[at + 3],
+            cells_at(actions, at),
             index,
         );
         let Submitted::Accepted(next) = submitted else {
@@ -149,5 +177,5 @@ pub fn run(
         at += 4;
         index += 1;
     }
-    Submitted::Accepted(number)
+    ends(actions.len() - at, index, number)
 }

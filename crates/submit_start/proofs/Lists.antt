@@ -12,7 +12,7 @@ use Rattle.ray_tracing.specs.Submission.{Lent, causeWhen, _orElse_, tlasCount, 
 use Rattle.ray_tracing.proofs.Firsts.{or-none, within}
 use Rattle.submit_checks.specs.declared.Checked.{Checked}
 use Rattle.submit_checks.specs.declared.Checked.the-variants.{Fine, Refused}
-use Rattle.submit_checks.specs.Outcome.{causeOf}
+use Rattle.submit_checks.specs.Outcome.{checkedCause}
 use Rattle.submit_checks.specs.Known.{ListRoom}
 use Rattle.submit_checks.proofs.Walks.{refusal, nothing}
 
@@ -42,10 +42,10 @@ module _ (l : Lent) (t n : ℕ) where
   lists-none : t < n → judgeList l t ≡ none → judgeLists l t (n - t) ≡ judgeLists l (t + 1) (n - (t + 1))
   lists-none h p = rw (lists-step l t n h, p)
 
-  pub lists-stop : {o : Option Cause} {x : Checked} {e : ValidateAsActionsError} → t < n → judgeLists l t (n - t) ≡ o → causeOf x ≡ judgeList l t → x ≡ Refused e → causeOf x ≡ o
-  lists-stop h inv p q = ap causeOf q ∙ sym (lists-some h (refusal p q)) ∙ inv
+  pub lists-stop : {o : Option Cause} {x : Checked} {e : ValidateAsActionsError} → t < n → judgeLists l t (n - t) ≡ o → checkedCause x ≡ judgeList l t → x ≡ Refused e → checkedCause x ≡ o
+  lists-stop h inv p q = ap checkedCause q ∙ sym (lists-some h (refusal p q)) ∙ inv
 
-  pub lists-go-on : {o : Option Cause} {x : Checked} → t < n → judgeLists l t (n - t) ≡ o → causeOf x ≡ judgeList l t → x ≡ Fine → judgeLists l (t + 1) (n - (t + 1)) ≡ o
+  pub lists-go-on : {o : Option Cause} {x : Checked} → t < n → judgeLists l t (n - t) ≡ o → checkedCause x ≡ judgeList l t → x ≡ Fine → judgeLists l (t + 1) (n - (t + 1)) ≡ o
   lists-go-on h inv p q = sym (lists-none h (nothing p q)) ∙ inv
 
 -- they look at the Blases and the lists

@@ -16,7 +16,7 @@ ghost use Rattle.ray_tracing.specs.Layout.{layout, size};
 ghost use Rattle.ray_tracing.specs.Reading.{judgeLent};
 ghost use Rattle.ray_tracing.specs.Causes.{bare, sheetNumber, submissionCause};
 ghost use Rattle.ray_tracing.specs.Submission.{tableCause, judgeRoom, judgeList, judgeLists, judge, mostDependencies, lentOf};
-ghost use Rattle.submit_checks.specs.Outcome.{causeOf};
+ghost use Rattle.submit_checks.specs.Outcome.{checkedCause};
 ghost use Rattle.submit_checks.specs.Known.{tlasesIn, ListRoom};
 
 // The starting list of one Tlas: 4 goes by the count itself.
@@ -28,7 +28,7 @@ fn judge_list(
 ) -> Checked
     requires { ⌜ (tlas .0 < length (now «dependency_counts»))
         × (tlas .0 * mostDependencies + mostDependencies ≤ length (now dependencies)) ⌝ }
-    ensures { λ r. ⌜ causeOf r
+    ensures { λ r. ⌜ checkedCause r
         ≡ judgeList (lentOf 0 (now (blases .entry)) [] (now («dependency_counts» .entry)) (now (dependencies .entry))) (tlas .0) ⌝ }
 {
     let t = tlas.0 as usize;
@@ -48,7 +48,7 @@ fn judge_lists(
     dependencies: &[u16],
 ) -> Checked
     requires { ⌜ ListRoom «tlas_count» (now «dependency_counts») (now dependencies) ⌝ }
-    ensures { λ r. ⌜ causeOf r
+    ensures { λ r. ⌜ checkedCause r
         ≡ judgeLists
         (lentOf 0 (now (blases .entry)) [] (now («dependency_counts» .entry)) (now (dependencies .entry)))
         0
@@ -79,7 +79,7 @@ fn table_error(e: SheetError) -> ValidateAsActionsError
 // A table of the start, judged as in a build.
 fn judge_table(table: &[u8], section: usize) -> Checked
     requires { ⌜ (0 < section) × (section < 10) ⌝ }
-    ensures { λ r. ⌜ causeOf r
+    ensures { λ r. ⌜ checkedCause r
         ≡ tableCause (judgeLent section (layout section) (size (section - 1)) [] (now (table .entry))) ⌝ }
 {
     match judge_lent(table, section, &table[..0]) {
@@ -91,7 +91,7 @@ fn judge_table(table: &[u8], section: usize) -> Checked
 // 39 unless each Tlas's list has room for 512.
 fn judge_room(tlases: &[u8], dependency_counts: &[u16], dependencies: &[u16]) -> Checked
     requires { ⌜ tlasesIn (now tlases) ≤ layout 4 .most ⌝ }
-    ensures { λ r. ⌜ causeOf r
+    ensures { λ r. ⌜ checkedCause r
         ≡ judgeRoom (lentOf 0 [] (now (tlases .entry)) (now («dependency_counts» .entry)) (now (dependencies .entry))) ⌝ }
 {
     let tlas_count = tlases.len() / TLAS_SIZE;
@@ -111,7 +111,7 @@ pub fn judge_start(
     dependency_counts: &[u16],
     dependencies: &[u16],
 ) -> Checked
-    ensures { λ r. ⌜ ((n : ℕ) → causeOf r
+    ensures { λ r. ⌜ ((n : ℕ) → checkedCause r
         ≡ judge
         (lentOf n (now (blases .entry)) (now (tlases .entry)) (now («dependency_counts» .entry)) (now (dependencies .entry)))) ⌝ }
 {

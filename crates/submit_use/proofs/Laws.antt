@@ -8,7 +8,7 @@ use Rattle.ray_tracing.specs.Reading as reading
 use Rattle.ray_tracing.specs.Mentions.{tlasOf}
 use Rattle.ray_tracing.specs.Causes.{Cause, cause}
 use Rattle.ray_tracing.specs.Submission.{Lent, tlas, tlasIn, dependenciesOf, first, unusableBlas, unusable, useTlas, mentionTlas, before, act}
-use Rattle.submit_checks.specs.Outcome.{causeOf, actedOf}
+use Rattle.submit_checks.specs.Outcome.{checkedCause, actedOf}
 use Rattle.submit_checks.specs.declared.Checked.{Checked}
 use Rattle.submit_checks.specs.declared.Checked.the-variants.{Fine, Refused}
 
@@ -26,7 +26,7 @@ pub before-use : (l : Lent) (t : ℕ) → before l (useTlas t) ≡ mentionTlas l
 unfolding before
 before-use l t = refl
 
-pub use-acts : (l : Lent) (t : ℕ) (x : Checked) → causeOf x ≡ unusable l t → actedOf x l ≡ act l (useTlas t)
+pub use-acts : (l : Lent) (t : ℕ) (x : Checked) → checkedCause x ≡ unusable l t → actedOf x l ≡ act l (useTlas t)
 unfolding act
 use-acts l t Fine p = rw (← p)
 use-acts l t (Refused e) p = rw (← p)

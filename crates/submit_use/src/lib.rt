@@ -18,13 +18,13 @@ ghost use lib.ListN.{getD};
 ghost use Rattle.ray_tracing.specs.Submission as Submission;
 ghost use Rattle.ray_tracing.specs.Submission.{Lent, listIn, mostDependencies, first, judge, lentOf, buffersOf};
 ghost use Rattle.ray_tracing.specs.Submission.{unusableBlas, unusable, useTlas};
-ghost use Rattle.submit_checks.specs.Outcome.{causeOf, Acts};
+ghost use Rattle.submit_checks.specs.Outcome.{checkedCause, Acts};
 ghost use Rattle.submit_checks.specs.Known.{blasesIn, tlasesIn, Inside, ListRoom};
 
 // One listed Blas of a use: 42, 44, 21.
 fn use_blas(blas: Blas, id: BlasId, own: u64, tlas: TlasId) -> Checked
     ensures { λ r. ⌜ ((l : Lent) → Submission.blas l (id .0) ≡ blas → Submission.tlas l (tlas .0) .«built_index» ≡ own
-        → causeOf r ≡ unusableBlas l (tlas .0) (id .0)) ⌝ }
+        → checkedCause r ≡ unusableBlas l (tlas .0) (id .0)) ⌝ }
 {
     if blas.built_index == 0 {
         return Checked::Refused(ValidateAsActionsError::UsedTlasOfUnbuiltBlas(tlas, id));
@@ -41,7 +41,7 @@ fn use_blas(blas: Blas, id: BlasId, own: u64, tlas: TlasId) -> Checked
 fn use_list(blases: &[u8], own: u64, tlas: TlasId, ids: &[u16]) -> Checked
     requires { ⌜ Inside (now ids) (blasesIn (now blases)) ⌝ }
     ensures { λ r. ⌜ ((l : Lent) → l .blases ≡ now (blases .entry) → Submission.tlas l (tlas .0) .«built_index» ≡ own
-        → causeOf r ≡ first (unusableBlas l (tlas .0)) (now (ids .entry))) ⌝ }
+        → checkedCause r ≡ first (unusableBlas l (tlas .0)) (now (ids .entry))) ⌝ }
 {
     let mut k = 0;
     while k < ids.len() {
@@ -67,7 +67,7 @@ fn use_tlas(
     requires { ⌜ ListRoom (tlasesIn (now tlases)) (now «dependency_counts») (now dependencies) ⌝ }
     requires { ⌜ (getD (now «dependency_counts») (tlas .0) 0 ≤ mostDependencies)
         × Inside (listIn (now «dependency_counts») (now dependencies) (tlas .0)) (blasesIn (now blases)) ⌝ }
-    ensures { λ r. ⌜ causeOf r
+    ensures { λ r. ⌜ checkedCause r
         ≡ unusable
         (lentOf 0 (now (blases .entry)) (now (tlases .entry)) (now («dependency_counts» .entry)) (now (dependencies .entry)))
         (tlas .0) ⌝ }

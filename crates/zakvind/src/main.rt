@@ -1,5 +1,6 @@
-// Reads a sheet from standard input and prints its lines. Of an input that is longer than the buffer the first 65,536 bytes are read: the
-// first 56,416 decide what is printed (`report-prefix` of `report`).
+// zakvind [VERB]: reads a sheet from standard input and prints its lines; with the verb `explain` also what they refuse, in words. For other
+// arguments it prints nothing. Of an input that is longer than the buffer the first 65,536 bytes are read: the first 56,416 decide what is
+// printed (`report-prefix` of `report`, `explained-prefix` of `explain`).
 use libc::STDIN_FILENO;
 use libc::STDOUT_FILENO;
 use ray_tracing::Reported;
@@ -10,16 +11,42 @@ fn print(text: &[u8], n: usize) {
     }
 }
 
-// No sheet prints more than 6,134 bytes, so none is refused here (`report-most`, `never-short`).
-fn answer(sheet: &[u8]) {
+// No sheet's lines are more than 6,134 bytes, so none is refused here (`report-most`, `never-short` of `report`).
+fn print_lines(sheet: &[u8]) {
     let mut text = [0u8; 6134];
     if let Reported::Written(n) = report::report(sheet, &mut text) {
         print(&text, n);
     }
 }
 
+// Nor are they with their words more than 6,381 (`explained-most`, `never-short` of `explain`).
+fn print_explained(sheet: &[u8]) {
+    let mut text = [0u8; 6381];
+    if let Reported::Written(n) = explain::explain(sheet, &mut text) {
+        print(&text, n);
+    }
+}
+
+fn answer(verb: &[u8], sheet: &[u8]) {
+    if check::same(verb, b"explain") {
+        print_explained(sheet);
+    }
+}
+
+// A verb that is longer than any has no bytes here, and is none.
+fn answer_argument(sheet: &[u8]) {
+    let mut verb = [0u8; 16];
+    let n = os::arg(1, &mut verb);
+    answer(&verb[..n], sheet);
+}
+
 fn main() {
     let mut sheet = io::large_buffer();
     let n = io::read_full(STDIN_FILENO, &mut sheet);
-    answer(&sheet[..n]);
+    let words = os::arg_count();
+    if words < 2 {
+        print_lines(&sheet[..n]);
+    } else if words == 2 {
+        answer_argument(&sheet[..n]);
+    }
 }

@@ -27,22 +27,22 @@ loop-holds : tie.Need-loop-holds Inv-loop μ-loop
 loop-holds c = (sym (slots-none (ofPackages [] (c .before .before .before .args .packages .now) (c .before .before .before .args .slots .now))), search needs, starts _ _ _ (rw sub-zero))
 
 present-of-requires : tie.Need-present-of-requires Inv-loop μ-loop
-present-of-requires c κs = omega (arith, c .slot-count-of .ensures, c .before .before .before .before .before .before .pre .0 .drawn (c .before .before .loop .p) (c .before .loop-test .taken))
+present-of-requires c κs = omega (arith, c .slot-count .ensures, c .before .before .before .before .before .before .pre .0 .drawn (c .before .before .loop .p) (c .before .loop-test .taken))
 
-mul-end : tie.Need-mul-end Inv-loop μ-loop
-mul-end c = omega (arith, c .before .slot-count-of .ensures, c .before .before .before .before .before .before .before .pre .0 .drawn (c .before .before .before .loop .p) (c .before .before .loop-test .taken))
+mul-bytes : tie.Need-mul-bytes Inv-loop μ-loop
+mul-bytes c = omega (arith, c .before .slot-count .ensures, c .before .before .before .before .before .before .before .pre .0 .drawn (c .before .before .before .loop .p) (c .before .before .loop-test .taken))
 
 add-end : tie.Need-add-end Inv-loop μ-loop
-add-end c = omega (arith, c .before .slot-count-of .ensures, c .before .before .before .before .before .before .before .pre .0 .drawn (c .before .before .before .loop .p) (c .before .before .loop-test .taken))
+add-end c = omega (arith, c .before .slot-count .ensures, c .before .before .before .before .before .before .before .pre .0 .drawn (c .before .before .before .loop .p) (c .before .before .loop-test .taken))
 
 slice-write-out-2 : tie.Need-slice-write-out-2 Inv-loop μ-loop
 slice-write-out-2 c = simp length-set (omega arith)
 
 add-s : tie.Need-add-s Inv-loop μ-loop
-add-s c = omega (arith, c .before .slot-count-of .ensures, c .before .before .before .before .before .before .before .pre .0 .drawn (c .before .before .before .loop .p) (c .before .before .loop-test .taken))
+add-s c = omega (arith, c .before .slot-count .ensures, c .before .before .before .before .before .before .before .pre .0 .drawn (c .before .before .before .loop .p) (c .before .before .loop-test .taken))
 
 loop-again : tie.Need-loop-again Inv-loop μ-loop
-loop-again c = (omega (arith, c .before .slot-count-of .ensures, c .before .before .before .before .before .before .before .pre .0 .drawn (c .before .before .before .loop .p) (c .before .before .loop-test .taken), slots-more (ofPackages [] (c .before .before .before .before .before .before .before .args .packages .now) (c .before .before .before .before .before .before .before .args .slots .now)) (c .before .before .before .loop .p)), omega (arith, c .before .slot-count-of .ensures, c .before .before .before .before .before .before .before .pre .0 .drawn (c .before .before .before .loop .p) (c .before .before .loop-test .taken)), turn (c .before .before .before .loop .inv .2) (staging-more _ _ _ _ _ (c .before .before .loop-test .taken) (c .before .slot-count-of .ensures) (ap (λ (n : ℕ). c .before .before .before .loop .start + 64 * n) (c .present-of .ensures .0))) (omega arith) (pair-stored (c .before .before .before .loop .out) (2 * c .before .before .before .loop .p) (c .before .before .before .loop .start) (c .before .before .before .loop .start + 64 * c .present-of .result)))
+loop-again c = (omega (arith, c .before .slot-count .ensures, c .before .before .before .before .before .before .before .pre .0 .drawn (c .before .before .before .loop .p) (c .before .before .loop-test .taken), slots-more (ofPackages [] (c .before .before .before .before .before .before .before .args .packages .now) (c .before .before .before .before .before .before .before .args .slots .now)) (c .before .before .before .loop .p)), omega (arith, c .before .slot-count .ensures, c .before .before .before .before .before .before .before .pre .0 .drawn (c .before .before .before .loop .p) (c .before .before .loop-test .taken)), turn (c .before .before .before .loop .inv .2) (staging-more _ _ _ _ _ (c .before .before .loop-test .taken) (c .before .slot-count .ensures) (ap (λ (n : ℕ). c .before .before .before .loop .start + 64 * n) (c .present-of .ensures .0))) (omega arith) (pair-stored (c .before .before .before .loop .out) (2 * c .before .before .before .loop .p) (c .before .before .before .loop .start) (c .before .before .before .loop .start + 64 * c .present-of .result)))
 
 returns : tie.Need-returns Inv-loop μ-loop
 returns c = done (c .before .loop .inv .2) (staging-none _ _ _ _ _ (c .loop-test .left))
@@ -56,7 +56,7 @@ write-staging-ranges-spec =
     loop-holds
     (λ c κs. search needs)
     present-of-requires
-    mul-end
+    mul-bytes
     add-end
     (λ c. search needs)
     (λ c. search needs)

@@ -6,7 +6,7 @@ use lib.ListN.{length}
 use lib.Seq.{sets}
 use Rattle.ray_tracing.specs.Instances.{slotBytes, slotsBytes, presentOf}
 use Rattle.ray_tracing.proofs.Instances.{slots-length, slots-more, present-more, present-mono}
-use Rattle.instance.proofs.Laws.{sets-then}
+use Rattle.instance_bytes.proofs.Laws.{sets-then}
 use borrow.Author.Needs.{needs}
 use Rattle.instance.proofs.put_slots.Statement.{statement}
 use Rattle.instance.proofs.put_slots.Tie as tie

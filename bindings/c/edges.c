@@ -1,0 +1,344 @@
+/* The header against the library: records packed and unpacked, the room of a build, empty tables, words, a refused append, and how
+ * much stack each call uses, with the largest tables and sheet. Every answer is held against what it must be. */
+#define _GNU_SOURCE
+#include <zakvind.h>
+
+#include <pthread.h>
+#include <stdio.h>
+#include <stdlib.h>
+#include <string.h>
+#include <sys/mman.h>
+
+static void must(int holds, const char *what)
+{
+    if (!holds) {
+        printf("C edges: not as it must be: %s\n", what);
+        exit(1);
+    }
+}
+
+/* ---- records: random bytes, unpacked and packed again, are the same */
+
+static uint64_t state = 0x5eed;
+
+static uint8_t random_byte(void)
+{
+    state ^= state << 13;
+    state ^= state >> 7;
+    state ^= state << 17;
+    return (uint8_t)(state >> 32 & 255);
+}
+
+#define SAME(one, bytes)                                         \
+    for (int round = 0; round < 1000; round++) {                 \
+        uint8_t given[bytes], packed[bytes];                     \
+        for (size_t i = 0; i < bytes; i++)                       \
+            given[i] = random_byte();                            \
+        const zakvind_##one r = zakvind_unpack_##one(given);     \
+        zakvind_pack_##one(packed, &r);                          \
+        must(memcmp(given, packed, bytes) == 0, "a packed " #one); \
+    }
+
+static void records(void)
+{
+    SAME(buffer, ZAKVIND_BUFFER_BYTES)
+    SAME(blas, ZAKVIND_BLAS_BYTES)
+    SAME(declared, ZAKVIND_DECLARED_BYTES)
+    SAME(tlas, ZAKVIND_TLAS_BYTES)
+    SAME(entry, ZAKVIND_ENTRY_BYTES)
+    SAME(geometry, ZAKVIND_GEOMETRY_BYTES)
+    SAME(package, ZAKVIND_PACKAGE_BYTES)
+    SAME(slot, ZAKVIND_SLOT_BYTES)
+    SAME(action, ZAKVIND_ACTION_BYTES)
+    must(zakvind_geometry_default().index_buffer == ZAKVIND_NO_BUFFER, "no index buffer by default");
+    must(zakvind_geometry_default().transform_buffer == ZAKVIND_NO_BUFFER, "no transform buffer by default");
+    must(zakvind_declared_default().stride_alignment == 1, "a stride alignment that may be, by default");
+}
+
+/* ---- the largest tables that there may be, all of them used */
+
+static uint8_t buffers[ZAKVIND_MOST_BUFFERS * ZAKVIND_BUFFER_BYTES], blases[ZAKVIND_MOST_BLASES * ZAKVIND_BLAS_BYTES];
+static uint8_t declared[ZAKVIND_MOST_DECLARED * ZAKVIND_DECLARED_BYTES], tlases[ZAKVIND_MOST_TLASES * ZAKVIND_TLAS_BYTES];
+static uint8_t entries[ZAKVIND_MOST_ENTRIES * ZAKVIND_ENTRY_BYTES], geometries[ZAKVIND_MOST_GEOMETRIES * ZAKVIND_GEOMETRY_BYTES];
+static uint8_t packages[ZAKVIND_MOST_PACKAGES * ZAKVIND_PACKAGE_BYTES], slots[ZAKVIND_MOST_SLOTS * ZAKVIND_SLOT_BYTES];
+static uint8_t actions[ZAKVIND_MOST_ACTIONS * ZAKVIND_ACTION_BYTES], sheet[ZAKVIND_LONGEST_SHEET];
+
+static void fill(void)
+{
+    for (size_t i = 0; i < ZAKVIND_MOST_BUFFERS; i++) {
+        const zakvind_buffer r = {1 << 20, ZAKVIND_MARKS_BLAS_INPUT};
+        zakvind_pack_buffer(buffers + i * ZAKVIND_BUFFER_BYTES, &r);
+    }
+    for (size_t i = 0; i < ZAKVIND_MOST_BLASES; i++) {
+        zakvind_blas r = zakvind_blas_default();
+        r.flags = ZAKVIND_FLAGS_USE_TRANSFORM | (i % 3 ? ZAKVIND_FLAGS_ALLOW_COMPACTION : 0);
+        r.kind = i % 4 == 3;
+        r.build_scratch_size = 300 + i;
+        r.built_index = 1;
+        zakvind_pack_blas(blases + i * ZAKVIND_BLAS_BYTES, &r);
+    }
+    for (size_t i = 0; i < ZAKVIND_MOST_DECLARED; i++) {
+        zakvind_declared r = zakvind_declared_default();
+        r.blas = (uint16_t)(i % ZAKVIND_MOST_BLASES);
+        r.count = 24;
+        r.index_format = ZAKVIND_INDEX_FORMAT_TWO_BYTE;
+        r.index_count_present = 1;
+        r.index_count = 36;
+        zakvind_pack_declared(declared + i * ZAKVIND_DECLARED_BYTES, &r);
+    }
+    for (size_t i = 0; i < ZAKVIND_MOST_TLASES; i++) {
+        zakvind_tlas r = zakvind_tlas_default();
+        r.build_scratch_size = 1000;
+        r.max_instance_count = 512;
+        zakvind_pack_tlas(tlases + i * ZAKVIND_TLAS_BYTES, &r);
+    }
+    for (size_t i = 0; i < ZAKVIND_MOST_ENTRIES; i++) {
+        const zakvind_entry r = {(uint16_t)i, i % 4 == 3, 4};
+        zakvind_pack_entry(entries + i * ZAKVIND_ENTRY_BYTES, &r);
+    }
+    for (size_t i = 0; i < ZAKVIND_MOST_GEOMETRIES; i++) {
+        zakvind_geometry r = zakvind_geometry_default();
+        r.count = 24;
+        r.stride = 24;
+        r.buffer = (uint16_t)i;
+        r.index_format = ZAKVIND_INDEX_FORMAT_TWO_BYTE;
+        r.index_buffer = (uint16_t)i;
+        r.index_count_present = r.first_index_present = r.transform_buffer_offset_present = 1;
+        r.index_count = 36;
+        r.transform_buffer = (uint16_t)i;
+        zakvind_pack_geometry(geometries + i * ZAKVIND_GEOMETRY_BYTES, &r);
+    }
+    for (size_t i = 0; i < ZAKVIND_MOST_PACKAGES; i++) {
+        const zakvind_package r = {(uint16_t)i, 16};
+        zakvind_pack_package(packages + i * ZAKVIND_PACKAGE_BYTES, &r);
+    }
+    for (size_t i = 0; i < ZAKVIND_MOST_SLOTS; i++) {
+        zakvind_slot r = zakvind_slot_default();
+        r.present = i % 5 != 0;
+        r.blas = (uint16_t)(i % ZAKVIND_MOST_BLASES);
+        zakvind_pack_slot(slots + i * ZAKVIND_SLOT_BYTES, &r);
+    }
+    for (size_t i = 0; i < ZAKVIND_MOST_ACTIONS; i++) {
+        const zakvind_action r = {(uint8_t)(1 + i % 2), 0};
+        zakvind_pack_action(actions + i * ZAKVIND_ACTION_BYTES, &r);
+    }
+}
+
+static void put_section(uint8_t **at, const uint8_t *table, size_t bytes, size_t one)
+{
+    zakvind_put(*at, 2, bytes / one);
+    memcpy(*at + 2, table, bytes);
+    *at += 2 + bytes;
+}
+
+static void make_sheet(void)
+{
+    uint8_t *at = sheet;
+    zakvind_put(at, 1, 1);
+    zakvind_put(at + 1, 4, 256);
+    zakvind_put(at + 5, 8, 5);
+    at += ZAKVIND_HEAD_BYTES;
+    put_section(&at, buffers, sizeof buffers, ZAKVIND_BUFFER_BYTES);
+    put_section(&at, blases, sizeof blases, ZAKVIND_BLAS_BYTES);
+    put_section(&at, declared, sizeof declared, ZAKVIND_DECLARED_BYTES);
+    put_section(&at, tlases, sizeof tlases, ZAKVIND_TLAS_BYTES);
+    put_section(&at, entries, sizeof entries, ZAKVIND_ENTRY_BYTES);
+    put_section(&at, geometries, sizeof geometries, ZAKVIND_GEOMETRY_BYTES);
+    put_section(&at, packages, sizeof packages, ZAKVIND_PACKAGE_BYTES);
+    put_section(&at, slots, sizeof slots, ZAKVIND_SLOT_BYTES);
+    put_section(&at, actions, sizeof actions, ZAKVIND_ACTION_BYTES);
+    must(at == sheet + sizeof sheet, "the longest sheet is as long as is said");
+}
+
+/* ---- a build with so much room */
+
+static uint64_t blas_offsets[ZAKVIND_ROOM_BLAS_OFFSETS(ZAKVIND_MOST_ENTRIES)];
+static uint64_t tlas_offsets[ZAKVIND_ROOM_TLAS_OFFSETS(ZAKVIND_MOST_PACKAGES)];
+static uint64_t staging_ranges[ZAKVIND_ROOM_STAGING_RANGES(ZAKVIND_MOST_PACKAGES)];
+static uint8_t instances[ZAKVIND_ROOM_INSTANCES(ZAKVIND_MOST_SLOTS)];
+static uint64_t init_ranges[ZAKVIND_ROOM_INIT_RANGES(ZAKVIND_MOST_GEOMETRIES)];
+static uint16_t compactable[ZAKVIND_ROOM_COMPACTABLE(ZAKVIND_MOST_ENTRIES)];
+static uint16_t lists[ZAKVIND_ROOM_LISTS(ZAKVIND_MOST_ENTRIES, ZAKVIND_MOST_PACKAGES, ZAKVIND_MOST_SLOTS)];
+static zakvind_room room;
+static zakvind_built built;
+
+static void build(void)
+{
+    built = zakvind_build(256, buffers, sizeof buffers, blases, sizeof blases, declared, sizeof declared, tlases, sizeof tlases,
+                          entries, sizeof entries, geometries, sizeof geometries, packages, sizeof packages, slots, sizeof slots,
+                          blas_offsets, room.blas_offsets, tlas_offsets, room.tlas_offsets, staging_ranges, room.staging_ranges,
+                          instances, room.instances, init_ranges, room.init_ranges, compactable, room.compactable, lists, room.lists);
+}
+
+static void room_fits(void)
+{
+    room = zakvind_room_for(blases, sizeof blases, entries, sizeof entries, geometries, sizeof geometries, packages, sizeof packages,
+                            slots, sizeof slots);
+    build();
+    must(built.number == 0 && built.recorded == 1, "a build with the room that it needs");
+    must(built.blas_offsets == room.blas_offsets && built.tlas_offsets == room.tlas_offsets, "offsets as many as there is room");
+    must(built.staging_ranges == room.staging_ranges && built.instances == room.instances, "instances as many as there is room");
+    must(built.init_ranges == room.init_ranges && built.compactable == room.compactable, "ranges as many as there is room");
+    must(built.lists == room.lists, "lists as many as there is room");
+    size_t *each[] = {&room.blas_offsets, &room.tlas_offsets, &room.staging_ranges, &room.instances,
+                      &room.init_ranges, &room.compactable, &room.lists};
+    for (size_t i = 0; i < sizeof each / sizeof *each; i++) {
+        must(*each[i] > 0, "each output is written");
+        --*each[i];
+        build();
+        must(built.number == ZAKVIND_OUTPUT_TOO_SHORT, "a build with one element less");
+        ++*each[i];
+    }
+}
+
+/* ---- nothing at all, lent by the idiom */
+
+static void nothing(void)
+{
+    uint8_t *null = NULL, *given = sheet;
+    uint8_t *none = ZAKVIND_LENT(uint8_t, null);
+    must(none != NULL && ZAKVIND_LENT(uint8_t, given) == sheet, "a pointer to nothing");
+    const zakvind_built b =
+        zakvind_build(1, none, 0, none, 0, none, 0, none, 0, none, 0, none, 0, none, 0, none, 0, ZAKVIND_NONE(uint64_t), 0,
+                      ZAKVIND_NONE(uint64_t), 0, ZAKVIND_NONE(uint64_t), 0, none, 0, ZAKVIND_NONE(uint64_t), 0, ZAKVIND_NONE(uint16_t), 0,
+                      ZAKVIND_NONE(uint16_t), 0);
+    must(b.number == 0 && b.recorded == 0, "a build of nothing");
+    zakvind_command_indices indices = {3, 5};
+    const zakvind_submitted s = zakvind_submit(&indices, none, 0, none, 0, ZAKVIND_NONE(uint16_t), 0, ZAKVIND_NONE(uint16_t), 0,
+                                               ZAKVIND_NONE(uint32_t), 0, ZAKVIND_NONE(uint16_t), 0);
+    must(s.number == 0 && indices.next_acceleration_structure_build_command_index == 5, "a submission of nothing");
+    must(zakvind_read_sheet(none, 0).number == ZAKVIND_TRUNCATED, "a sheet of nothing");
+    must(zakvind_report(none, 0, none, 0).number == ZAKVIND_OUTPUT_TOO_SHORT, "a text without room");
+}
+
+/* ---- a refused append */
+
+static void refused_append(void)
+{
+    uint8_t fields[ZAKVIND_INSTANCE_FIELDS_BYTES] = {0}, out[4 * ZAKVIND_INSTANCE_BYTES];
+    uint64_t used = 0;
+    for (int i = 0; i < 6; i++) {
+        fields[5] = i == 2 ? 1 : 0; /* custom data 2^24: refused */
+        memset(out + used, i, sizeof out - used);
+        const zakvind_appended a =
+            zakvind_append_instance(tlases, sizeof tlases, blases, sizeof blases, 0, fields, out, sizeof out, used);
+        must(a.number == (i == 2 ? ZAKVIND_TLAS_INVALID_CUSTOM_INDEX : i == 5 ? ZAKVIND_OUTPUT_TOO_SHORT : 0), "an append");
+        must(a.used == used + (i == 2 || i == 5 ? 0 : ZAKVIND_INSTANCE_BYTES), "the bytes in use after an append");
+        used = a.used;
+    }
+    must(used == sizeof out, "all instances stand one after the other");
+}
+
+/* ---- words */
+
+static uint8_t text[ZAKVIND_LONGEST_EXPLAINED];
+static zakvind_reported told;
+
+static void words(void)
+{
+    const char expected[] = "refused 23: region overruns buffer, entry 0, geometry 0, offset 0, region 960, size 959\n";
+    told = zakvind_words(ZAKVIND_CALL_BUILD, 23, 0, 0, 0, 960, 959, text, sizeof text);
+    must(told.number == 0 && told.written == sizeof expected - 1 && memcmp(text, expected, sizeof expected - 1) == 0, "words");
+    told = zakvind_words(ZAKVIND_CALL_BUILD, 23, 0, 0, 0, 960, 959, text, sizeof expected - 2);
+    must(told.number == ZAKVIND_OUTPUT_TOO_SHORT, "words without room");
+    told = zakvind_words(ZAKVIND_CALL_SHEET, 0, 0, 0, 0, 0, 0, text, sizeof text);
+    must(told.written == 19 && memcmp(text, "nothing is refused\n", 19) == 0, "the words of nothing");
+    for (uint64_t call = 0; call < 6; call++)
+        for (uint64_t number = 0; number < 50; number++)
+            for (uint64_t e = 0; e < 6; e++) {
+                const uint64_t top = UINT64_MAX;
+                must(zakvind_words(call, number, top, e, top, top, top, text, ZAKVIND_LONGEST_WORDS).number == 0, "the longest words");
+                must(zakvind_words(call, number, top, top, e, top, top, text, ZAKVIND_LONGEST_WORDS).number == 0, "the longest words");
+            }
+}
+
+/* ---- the stack: each call on one that was painted */
+
+enum { STACK = 1 << 20 };
+
+static void reads(void) { must(zakvind_read_sheet(sheet, sizeof sheet).number == 0, "the longest sheet"); }
+static void reports(void) { told = zakvind_report(sheet, sizeof sheet, text, sizeof text); }
+
+static void submits(void)
+{
+    static uint16_t counts[ZAKVIND_MOST_TLASES], dependencies[ZAKVIND_MOST_TLASES * ZAKVIND_TLAS_ROOM];
+    zakvind_command_indices indices = {0, 5};
+    const uint32_t cells[] = {ZAKVIND_BUILD, 0, ZAKVIND_MOST_ENTRIES, ZAKVIND_MOST_PACKAGES, ZAKVIND_USE_TLAS, 0, 0, 0,
+                              ZAKVIND_MARK_BLAS, 0, 0, 0, ZAKVIND_MARK_TLAS, 0, 0, 0};
+    const zakvind_submitted s = zakvind_submit(&indices, blases, sizeof blases, tlases, sizeof tlases, counts, ZAKVIND_MOST_TLASES,
+                                               dependencies, sizeof dependencies / sizeof *dependencies, cells, 16, lists, room.lists);
+    must(s.number == 0, "the largest Build");
+}
+
+static void appends(void)
+{
+    must(zakvind_append_instance(tlases, sizeof tlases, blases, sizeof blases, 0, slots + 1, instances, sizeof instances, 0).number == 0,
+         "an instance");
+}
+
+static void explains(void) { told = zakvind_explain(sheet, sizeof sheet, text, sizeof text); }
+static void speaks(void) { told = zakvind_words(ZAKVIND_CALL_BUILD, 26, 1, 2, 3, 4, 5, text, sizeof text); }
+static void rests(void) {}
+
+static void *run(void *call)
+{
+    (*(void (**)(void))call)();
+    return NULL;
+}
+
+static size_t stack_of(void (*call)(void))
+{
+    uint8_t *stack = (uint8_t *)mmap(NULL, STACK, PROT_READ | PROT_WRITE, MAP_PRIVATE | MAP_ANONYMOUS, -1, 0);
+    must(stack != (uint8_t *)MAP_FAILED, "there is memory for a stack");
+    memset(stack, 0xa5, STACK);
+    pthread_attr_t attributes;
+    pthread_t thread;
+    must(pthread_attr_init(&attributes) == 0 && pthread_attr_setstack(&attributes, stack, STACK) == 0, "a stack can be given");
+    must(pthread_create(&thread, &attributes, run, &call) == 0 && pthread_join(thread, NULL) == 0, "a thread can be run");
+    size_t untouched = 0;
+    while (untouched < STACK && stack[untouched] == 0xa5)
+        untouched++;
+    must(munmap(stack, STACK) == 0, "the stack can be given back");
+    return STACK - untouched;
+}
+
+static void stacks(void)
+{
+    static const struct {
+        const char *name;
+        void (*call)(void);
+        size_t most;
+    } calls[] = {
+        {"read_sheet", reads, ZAKVIND_STACK_BYTES},
+        {"build", build, ZAKVIND_STACK_BYTES},
+        {"submit", submits, ZAKVIND_STACK_BYTES},
+        {"append_instance", appends, ZAKVIND_STACK_BYTES},
+        {"report", reports, ZAKVIND_TEXT_STACK_BYTES},
+        {"explain", explains, ZAKVIND_TEXT_STACK_BYTES},
+        {"words", speaks, ZAKVIND_STACK_BYTES},
+    };
+    const size_t thread = stack_of(rests);
+    printf("C: stack in bytes:");
+    for (size_t i = 0; i < sizeof calls / sizeof *calls; i++) {
+        const size_t used = stack_of(calls[i].call) - thread;
+        printf(" %s %zu", calls[i].name, used);
+#ifndef ANY_STACK
+        must(used <= calls[i].most, "the stack that is said");
+#endif
+    }
+    putchar('\n');
+}
+
+int main(void)
+{
+    records();
+    fill();
+    make_sheet();
+    room_fits();
+    nothing();
+    refused_append();
+    words();
+    stacks();
+    puts("C: records, room, empty tables, appends and stack are as is said");
+    return 0;
+}

@@ -1,0 +1,64 @@
+//! Safe Rust over Zakvind's static library: checks, lays out and orders acceleration structure builds.
+//!
+//! Every call accepts all bytes and numbers, finishes, and refuses by a typed error what it won't have; none panics. A refused
+//! call writes nothing lent, except that a refused submission leaves what its earlier actions did. Errors display in the library's
+//! words; where one is about a field or an id, what names it follows.
+//!
+//! ```
+//! use zakvind::*;
+//! # fn main() -> Result<(), Box<dyn std::error::Error>> {
+//! let buffers = table(&[Buffer { size: 36, blas_input: true, destroyed: false }])?;
+//! let blases = table(&[Blas { build_scratch_size: 300, ..Default::default() }])?;
+//! let declared = table(&[BlasGeometrySizeDescriptor { count: 3, min_vertex_stride: 12, ..Default::default() }])?;
+//! let entries = table(&[BlasBuildEntry { geometry_count: 1, ..Default::default() }])?;
+//! let geometries = table(&[BlasGeometry { count: 3, stride: 12, ..Default::default() }])?;
+//! let tables = Tables {
+//!     buffers: &buffers,
+//!     blases: &blases,
+//!     declared: &declared,
+//!     entries: &entries,
+//!     geometries: &geometries,
+//!     ..Default::default()
+//! };
+//! let mut outputs = Outputs::for_tables(&tables);
+//! let built = build_acceleration_structures(256, &tables, outputs.lend())?;
+//! assert_eq!(built.scratch_size(), 512);
+//! assert_eq!(outputs.blas_offsets, [0]);
+//! # Ok(())
+//! # }
+//! ```
+//!
+//! The package finds the static library in the folder `ZAKVIND_LIB_DIR`, beside itself, in the prefix that it is installed in, or
+//! where the repository's `rt staticlib capi` puts it.
+#![deny(missing_docs)]
+#![deny(clippy::as_conversions, clippy::indexing_slicing, clippy::panic, clippy::unwrap_used, clippy::expect_used)]
+#![deny(clippy::unreachable, clippy::arithmetic_side_effects)]
+
+mod building;
+mod format;
+mod layout;
+mod misfit;
+mod naming;
+pub mod raw;
+mod records;
+mod sheet;
+mod submission;
+mod words;
+
+pub use building::{
+    AppendRefused, BuildAccelerationStructureError, BuildRefused, Built, LentOutputs, Outputs, Recorded, Resource, Tables, Written,
+    append_instance, build_acceleration_structures,
+};
+pub use format::{Allowed, Field, KindOf, Section, Used};
+pub use layout::*;
+pub use misfit::{At, May, Misfit};
+pub use raw::CommandIndices;
+pub use records::{
+    ALLOW_COMPACTION, ALLOW_RAY_HIT_VERTEX_RETURN, Action, Blas, BlasBuildEntry, BlasCompactState, BlasGeometry,
+    BlasGeometrySizeDescriptor, BlasId, Buffer, BufferId, IDENTITY, IndexFormat, Kind, Reader, Record, Tlas, TlasId, TlasInstance,
+    TlasPackage, USE_TRANSFORM, table,
+};
+pub use sheet::{OutputTooShort, Sheet, SheetError, SheetRefused, explain, read_sheet, report};
+pub use submission::{
+    Actions, DEPENDENCY_ROOM, Lent, SubmitRefused, ValidateAsActionsError, validate_acceleration_structure_actions,
+};

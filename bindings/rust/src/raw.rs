@@ -1,0 +1,275 @@
+//! The calls with their answers as the library gives them, in numbers.
+
+/// `zakvind_command_indices`.
+#[repr(C)]
+#[derive(Clone, Copy, Debug, Default, PartialEq, Eq)]
+pub struct CommandIndices {
+    /// never moved
+    pub active_submission_index: u64,
+    /// the counter
+    pub next_acceleration_structure_build_command_index: u64,
+}
+
+/// `zakvind_section`: where a section is.
+#[repr(C)]
+#[derive(Clone, Copy, Debug, Default, PartialEq, Eq)]
+pub struct Section {
+    /// of the first record, in bytes of the sheet
+    pub start: u64,
+    /// of its records
+    pub count: u64,
+}
+
+/// `zakvind_sheet`: what reading a sheet came to.
+#[repr(C)]
+#[derive(Clone, Copy, Debug, PartialEq, Eq)]
+pub struct Sheet {
+    /// 0, or why it is refused
+    pub number: u64,
+    /// of the refused byte
+    pub place: u64,
+    /// 1
+    pub version: u64,
+    /// of scratch sizes
+    pub alignment: u64,
+    /// the number that the next build takes
+    pub counter: u64,
+    /// sections 1 to 9
+    pub sections: [Section; 9],
+}
+
+/// `zakvind_built`: what a build came to.
+#[repr(C)]
+#[derive(Clone, Copy, Debug, PartialEq, Eq)]
+pub struct Built {
+    /// 0, or why it is refused
+    pub number: u64,
+    /// entry and geometry, package and slot; for 4 and 5 section and record
+    pub e: [u64; 2],
+    /// of the refusal
+    pub figures: [u64; 3],
+    /// 1, or 0: nothing recorded
+    pub recorded: u64,
+    /// of the recorded build
+    pub scratch_size: u64,
+    /// how many elements of each output were written
+    pub written: [u64; 7],
+}
+
+/// `zakvind_submitted`: what a submission came to.
+#[repr(C)]
+#[derive(Clone, Copy, Debug, PartialEq, Eq)]
+pub struct Submitted {
+    /// 0, or why it is refused
+    pub number: u64,
+    /// the refused one, from 0; 0 for a refused start
+    pub action: u64,
+    /// of the refusal
+    pub figures: [u64; 2],
+}
+
+/// `zakvind_appended`: what appending an instance came to.
+#[repr(C)]
+#[derive(Clone, Copy, Debug, PartialEq, Eq)]
+pub struct Appended {
+    /// 0, or why it is refused
+    pub number: u64,
+    /// 0, 0
+    pub e: [u64; 2],
+    /// of the refusal
+    pub figures: [u64; 3],
+    /// bytes in use now
+    pub used: u64,
+}
+
+/// `zakvind_reported`: what writing a text came to.
+#[repr(C)]
+#[derive(Clone, Copy, Debug, PartialEq, Eq)]
+pub struct Reported {
+    /// 0 or 39
+    pub number: u64,
+    /// bytes of it
+    pub written: u64,
+}
+
+mod ffi {
+    use super::{Appended, Built, CommandIndices, Reported, Sheet, Submitted};
+
+    unsafe extern "C" {
+        pub fn zakvind_read_sheet(sheet: *const u8, sheet_len: usize) -> Sheet;
+        pub fn zakvind_build(
+            alignment: u32,
+            buffers: *const u8,
+            buffers_len: usize,
+            blases: *const u8,
+            blases_len: usize,
+            declared: *const u8,
+            declared_len: usize,
+            tlases: *const u8,
+            tlases_len: usize,
+            entries: *const u8,
+            entries_len: usize,
+            geometries: *const u8,
+            geometries_len: usize,
+            packages: *const u8,
+            packages_len: usize,
+            slots: *const u8,
+            slots_len: usize,
+            blas_offsets: *mut u64,
+            blas_offsets_len: usize,
+            tlas_offsets: *mut u64,
+            tlas_offsets_len: usize,
+            staging_ranges: *mut u64,
+            staging_ranges_len: usize,
+            instances: *mut u8,
+            instances_len: usize,
+            init_ranges: *mut u64,
+            init_ranges_len: usize,
+            compactable: *mut u16,
+            compactable_len: usize,
+            lists: *mut u16,
+            lists_len: usize,
+        ) -> Built;
+        pub fn zakvind_submit(
+            indices: *mut CommandIndices,
+            blases: *mut u8,
+            blases_len: usize,
+            tlases: *mut u8,
+            tlases_len: usize,
+            dependency_counts: *mut u16,
+            dependency_counts_len: usize,
+            dependencies: *mut u16,
+            dependencies_len: usize,
+            actions: *const u32,
+            actions_len: usize,
+            lists: *const u16,
+            lists_len: usize,
+        ) -> Submitted;
+        pub fn zakvind_append_instance(
+            tlases: *const u8,
+            tlases_len: usize,
+            blases: *const u8,
+            blases_len: usize,
+            tlas: u16,
+            instance: *const [u8; 55],
+            instances: *mut u8,
+            instances_len: usize,
+            used: u64,
+        ) -> Appended;
+        pub fn zakvind_report(sheet: *const u8, sheet_len: usize, out: *mut u8, out_len: usize) -> Reported;
+        pub fn zakvind_explain(sheet: *const u8, sheet_len: usize, out: *mut u8, out_len: usize) -> Reported;
+        pub fn zakvind_words(
+            call: u64,
+            number: u64,
+            e0: u64,
+            e1: u64,
+            f0: u64,
+            f1: u64,
+            f2: u64,
+            out: *mut u8,
+            out_len: usize,
+        ) -> Reported;
+    }
+}
+
+// Safety, of every call: each pointer comes with the length of a live slice (or is a live reference), `&mut` excludes
+// that what is written overlaps anything else lent, and the functions ask nothing more of their callers.
+
+/// `zakvind_read_sheet`.
+pub fn read_sheet(sheet: &[u8]) -> Sheet {
+    unsafe { ffi::zakvind_read_sheet(sheet.as_ptr(), sheet.len()) }
+}
+
+/// `zakvind_build`; `tables` are sections 1 to 8.
+pub fn build(alignment: u32, tables: [&[u8]; 8], out: crate::LentOutputs) -> Built {
+    let [buffers, blases, declared, tlases, entries, geometries, packages, slots] = tables;
+    unsafe {
+        ffi::zakvind_build(
+            alignment,
+            buffers.as_ptr(),
+            buffers.len(),
+            blases.as_ptr(),
+            blases.len(),
+            declared.as_ptr(),
+            declared.len(),
+            tlases.as_ptr(),
+            tlases.len(),
+            entries.as_ptr(),
+            entries.len(),
+            geometries.as_ptr(),
+            geometries.len(),
+            packages.as_ptr(),
+            packages.len(),
+            slots.as_ptr(),
+            slots.len(),
+            out.blas_offsets.as_mut_ptr(),
+            out.blas_offsets.len(),
+            out.tlas_offsets.as_mut_ptr(),
+            out.tlas_offsets.len(),
+            out.staging_ranges.as_mut_ptr(),
+            out.staging_ranges.len(),
+            out.instances.as_mut_ptr(),
+            out.instances.len(),
+            out.init_ranges.as_mut_ptr(),
+            out.init_ranges.len(),
+            out.compactable.as_mut_ptr(),
+            out.compactable.len(),
+            out.lists.as_mut_ptr(),
+            out.lists.len(),
+        )
+    }
+}
+
+/// `zakvind_submit`.
+pub fn submit(indices: &mut CommandIndices, lent: crate::Lent, actions: &[u32], lists: &[u16]) -> Submitted {
+    unsafe {
+        ffi::zakvind_submit(
+            indices,
+            lent.blases.as_mut_ptr(),
+            lent.blases.len(),
+            lent.tlases.as_mut_ptr(),
+            lent.tlases.len(),
+            lent.dependency_counts.as_mut_ptr(),
+            lent.dependency_counts.len(),
+            lent.dependencies.as_mut_ptr(),
+            lent.dependencies.len(),
+            actions.as_ptr(),
+            actions.len(),
+            lists.as_ptr(),
+            lists.len(),
+        )
+    }
+}
+
+/// `zakvind_append_instance`.
+pub fn append_instance(tlases: &[u8], blases: &[u8], tlas: u16, instance: &[u8; 55], instances: &mut [u8], used: u64) -> Appended {
+    unsafe {
+        ffi::zakvind_append_instance(
+            tlases.as_ptr(),
+            tlases.len(),
+            blases.as_ptr(),
+            blases.len(),
+            tlas,
+            instance,
+            instances.as_mut_ptr(),
+            instances.len(),
+            used,
+        )
+    }
+}
+
+/// `zakvind_report`.
+pub fn report(sheet: &[u8], out: &mut [u8]) -> Reported {
+    unsafe { ffi::zakvind_report(sheet.as_ptr(), sheet.len(), out.as_mut_ptr(), out.len()) }
+}
+
+/// `zakvind_explain`.
+pub fn explain(sheet: &[u8], out: &mut [u8]) -> Reported {
+    unsafe { ffi::zakvind_explain(sheet.as_ptr(), sheet.len(), out.as_mut_ptr(), out.len()) }
+}
+
+/// `zakvind_words`.
+pub fn words(call: u64, number: u64, e: [u64; 2], figures: [u64; 3], out: &mut [u8]) -> Reported {
+    let ([e0, e1], [f0, f1, f2]) = (e, figures);
+    unsafe { ffi::zakvind_words(call, number, e0, e1, f0, f1, f2, out.as_mut_ptr(), out.len()) }
+}

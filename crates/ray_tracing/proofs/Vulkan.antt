@@ -1,0 +1,184 @@
+-- Vulkan's bytes of what callers find: in the output that a recorded build leaves, each present slot's 64 bytes are those of the
+-- VkAccelerationStructureInstanceKHR that the slot says; and so are an appended instance's.
+use Prim.Native.Nat.{ℕ, zero, suc, _+_, _-_, _*_, _^_, _<_, _≤_}
+use native.Mathlib.Nat.{zero-add}
+use native.Mathlib.Omega.{arith}
+use mathlib.Core.Path.{_≡_, refl, sym, ap, _∙_}
+use mathlib.Core.Bool.{Bool, true, false, not, _||_, _&&_, cond}
+use mathlib.Core.List.{List, [], _∷_, _++_, append-assoc}
+use lib.Dec.{leb, ltb, eqb}
+use lib.ListN.{length, take, drop, getD, length-append, length-take, length-drop, List·getD-append}
+use lib.Seq.{sets, sets-eq, take-append-le, drop-append-le, take-at, drop-at, length-take-le}
+use borrow.Author.Tests.{leb-false, ltb-false}
+use Rattle.wire.specs.Wire.{leAt, leBytes}
+use Rattle.ray_tracing.specs.declared.Written.{Written}
+use Rattle.ray_tracing.specs.declared.TlasId.{TlasId}
+use Rattle.ray_tracing.specs.declared.TlasInstance.{TlasInstance}
+use Rattle.ray_tracing.specs.Guard.{refuse}
+use Rattle.ray_tracing.specs.Layout.{size}
+use Rattle.ray_tracing.specs.Records.{fieldAt}
+use Rattle.ray_tracing.specs.Mentions.{_else_, blasMention, tlasMention}
+use Rattle.ray_tracing.specs.Instances.{VkAccelerationStructureInstanceKHR, field, columns, vkBytes, vkInstance, vkSlot, patterns, wordsAt, instanceFrom, instanceAt, addressFor, instanceBytes, presentOf, Appending, inUse, refused, namedTlasRule, roomRule, outcome, appendRule, bytesAfter, appendBytes, Appends}
+use Rattle.ray_tracing.specs.Plan.{Tables, passed, recordsIn, slotCount, slotPresent, judgeSlot, judgePackage, judgePackages, Outputs, planOf, short, Building, recorded, build, written, leaves, Builds}
+use Rattle.ray_tracing.proofs.Verdicts.{or-passed, none-atE, none-cond, each-passed, each-drawing}
+use Rattle.ray_tracing.proofs.Inside.{Inside, slotsBefore, slots-none, slots-more}
+use Rattle.ray_tracing.proofs.Instances.{Below, vk-bytes, bytes-length, from-lengths, from-length, patterns-read, getD-wordsAt, slot-custom}
+use Rattle.ray_tracing.proofs.Staged.{slot-placed, staging-length}
+use Rattle.ray_tracing.proofs.PlanLaws.{judged, facts, room}
+
+-- ---- 34 was judged of each present slot
+
+first-none : (t u : Bool) → _≡_ {A = ℕ} (refuse t 34 (refuse u 35 0)) 0 → t ≡ false
+unfolding refuse
+first-none false u e = refl
+first-none true u e = let z : _≡_ {A = ℕ} 34 0 = e in absurd (omega arith)
+
+module _ (x : Tables) (e : judgePackages x ≡ passed) where
+  package-passed : (p : ℕ) → p < recordsIn x 7 → judgePackage x p (slotsBefore x p) ≡ passed
+  unfolding judgePackages
+  package-passed p h =
+      rw zero-add at (each-drawing (judgePackage x) (slotCount x) (slotsBefore x) (slots-more x) (recordsIn x 7) 0 (rw (slots-none x) e) p h)
+
+  slot-passed : (p j : ℕ) → p < recordsIn x 7 → j < slotCount x p → judgeSlot x p j (slotsBefore x p + j) ≡ passed
+  slot-passed p j h k =
+      rw zero-add at
+      (each-passed (λ (j : ℕ). judgeSlot x p j (slotsBefore x p + j)) (slotCount x p) 0 (or-passed _ _ (package-passed p h) .0) j k)
+
+  pub slot-narrow :
+      (p j : ℕ)
+      → p < recordsIn x 7
+      → j < slotCount x p
+      → slotPresent (x .slots) (slotsBefore x p + j) ≡ true
+      → fieldAt 8 (x .slots) ((slotsBefore x p + j) * size 8) 2 < 2 ^ 24
+  slot-narrow p j h k s = leb-false _ _ (first-none _ _ (none-cond _ _ (none-atE p j _ (slot-passed p j h k)) s))
+
+-- ---- an instance that was read, as its slot says it
+
+columns-same : (m n : ℕ → ℕ) {a b : ℕ} → m 0 ≡ n 0 → m 1 ≡ n 1 → m 2 ≡ n 2 → m 3 ≡ n 3 → a ≡ b → columns m a ≡ columns n b
+columns-same m n p q r s t = λ j. field 32 (p j) (field 32 (q j) (field 32 (r j) (field 32 (s j) (t j))))
+
+module _ (blases s : List ℕ) (at : ℕ) (b : Below s) where
+  abbrev read : VkAccelerationStructureInstanceKHR
+  read = vkInstance (instanceAt s at) (addressFor blases (instanceAt s at))
+
+  abbrev said : VkAccelerationStructureInstanceKHR
+  said = vkSlot blases s at
+
+  number-read : (r c : ℕ) → 4 * r + c < 12 → read .matrix r c ≡ said .matrix r c
+  number-read r c h =
+      ap (λ (l : List ℕ). getD l (4 * r + c) 0) (patterns-read s (at + 1) b)
+      ∙ getD-wordsAt 12 s (at + 1 + 7) (4 * r + c) 0 h
+      ∙ ap (leAt 4 s) (omega arith)
+
+  line-read : (r : ℕ) → r < 3 → {m n : ℕ} → m ≡ n → columns (read .matrix r) m ≡ columns (said .matrix r) n
+  line-read r h e =
+      columns-same (read .matrix r) (said .matrix r) (number-read r 0 (omega arith)) (number-read r 1 (omega arith)) (number-read r 2 (omega arith))
+      (number-read r 3 (omega arith)) e
+
+  pub slot-read : vkBytes read ≡ vkBytes said
+  unfolding vkBytes instanceFrom
+  slot-read =
+      ap (leBytes 64)
+      (line-read 0 (omega arith)
+      (line-read 1 (omega arith)
+      (line-read 2 (omega arith)
+      (λ j. field 24 (slot-custom s at j) (field 8 (leAt 1 s (mask-place j)) (field 24 0 (field 8 0 (field 64 (read .accelerationStructureReference) 0))))))))
+    where
+      mask-place : at + 1 + 6 ≡ at + 7
+      mask-place = omega arith
+
+-- ---- what a recorded build leaves
+
+whole : (vs l : List ℕ) → length vs ≤ length l → sets l 0 vs ≡ vs ++ drop (0 + length vs) l
+whole vs l h = sets-eq vs l 0 (rw zero-add h)
+
+written-part : (vs l : List ℕ) (a n : ℕ) → length vs ≤ length l → a + n ≤ length vs → take n (drop a (sets l 0 vs)) ≡ take n (drop a vs)
+written-part vs l a n h k =
+    ap (λ (t : List ℕ). take n (drop a t)) (whole vs l h)
+    ∙ ap (take n) (drop-append-le a vs _ (omega arith))
+    ∙ take-append-le n (drop a vs) _ (omega (arith, length-drop a vs))
+
+written-cell : (vs l : List ℕ) (i : ℕ) → length vs ≤ length l → i < length vs → getD (sets l 0 vs) i 0 ≡ getD vs i 0
+written-cell vs l i h k = ap (λ (t : List ℕ). getD t i 0) (whole vs l h) ∙ List·getD-append vs _ 0 i k
+
+module _ (x : Tables) (o : Outputs) (n : ℕ) (w : Written) (left : Outputs) (builds : Builds x o (recorded n w) left) (bytes : Below (x .slots)) where
+  is-recorded : build x o ≡ recorded n w
+  is-recorded = sym (builds .answer)
+
+  left-is : left ≡ written (planOf x) o
+  left-is = builds .left ∙ ap (λ (b : Building). leaves b (planOf x) o) is-recorded
+
+  -- the k-th slot of package p, if it is present: past its range's start, 64 bytes for each present slot before it
+  pub build-vk :
+      (p k : ℕ)
+      → p < recordsIn x 7
+      → k < slotCount x p
+      → slotPresent (x .slots) (slotsBefore x p + k) ≡ true
+      → take 64 (drop (getD (left .«staging_ranges») (2 * p) 0 + 64 * presentOf (x .slots) (slotsBefore x p) k) (left .instances))
+      ≡ vkBytes (vkSlot (x .blases) (x .slots) ((slotsBefore x p + k) * size 8))
+  build-vk p k h l here =
+      let at = (slotsBefore x p + k) * size 8 in
+      let ranges = planOf x .«staging_ranges» in
+      let instances = planOf x .instances in
+      let place = getD ranges (2 * p) 0 + 64 * presentOf (x .slots) (slotsBefore x p) k in
+      let there = room x o n w is-recorded in
+      let start : getD (left .«staging_ranges») (2 * p) 0 ≡ getD ranges (2 * p) 0 =
+      ap (λ (q : Outputs). getD (q .«staging_ranges») (2 * p) 0) left-is
+      ∙ written-cell ranges (o .«staging_ranges») (2 * p) (there .staging) (omega (arith, staging-length x)) in
+      let placed = slot-placed x (facts x o n w is-recorded) p k h l here in
+      let long : length (take 64 (drop place instances)) ≡ 64 = ap length placed ∙ from-length (x .slots) (at + 1) _ in
+      let fits : place + 64 ≤ length instances = omega (arith, long, length-take 64 (drop place instances), length-drop place instances) in
+      ap (λ (s : ℕ). take 64 (drop (s + 64 * presentOf (x .slots) (slotsBefore x p) k) (left .instances))) start
+      ∙ ap (λ (q : Outputs). take 64 (drop place (q .instances))) left-is
+      ∙ written-part instances (o .instances) place 64 (there .instances) fits
+      ∙ placed
+      ∙ vk-bytes (instanceAt (x .slots) at) (addressFor (x .blases) (instanceAt (x .slots) at)) (from-lengths (x .slots) (at + 1) .0) (from-lengths (x .slots) (at + 1) .1)
+      (rw (slot-custom (x .slots) at) (slot-narrow x (judged x o n w is-recorded .packages) p k h l here))
+      ∙ slot-read (x .blases) (x .slots) at bytes
+
+-- ---- an appended instance
+
+else-zero : (m n : ℕ) → (m else n) ≡ 0 → (m ≡ 0) × (n ≡ 0)
+else-zero zero n e = (refl, e)
+else-zero (suc m) n e = absurd (omega arith)
+
+outcome-zero : (k used m : ℕ) → inUse m ≡ outcome k used → k ≡ 0
+outcome-zero zero used m e = refl
+outcome-zero (suc k) used m e = let z : _≡_ {A = ℕ} 0 1 = cc in absurd (omega arith)
+
+room-zero : (room used : ℕ) → roomRule room used ≡ 0 → used + 64 ≤ room
+unfolding refuse
+room-zero room used e = ltb-false room (used + 64) (go (ltb room (used + 64)) e)
+  where
+    go : (t : Bool) → _≡_ {A = ℕ} (refuse t 39 0) 0 → t ≡ false
+    go false e = refl
+    go true e = let z : _≡_ {A = ℕ} 39 0 = e in absurd (omega arith)
+
+module _ (tlases blases : List ℕ) (tlas : TlasId) (i : TlasInstance) (b : List ℕ) (used m : ℕ) (left : List ℕ)
+    (appends : Appends tlases blases tlas i b used (inUse m) left) (h : length (i .transform) ≡ 12) (g : length (i .«nan_bits») ≡ 12) where
+  not-refused : (namedTlasRule tlases blases tlas i ≡ 0) × (roomRule (length b) used ≡ 0)
+  unfolding appendRule
+  not-refused = else-zero (namedTlasRule tlases blases tlas i) (roomRule (length b) used) (outcome-zero _ used m (appends .answer))
+
+  narrow : i .«custom_data» < 2 ^ 24
+  unfolding namedTlasRule
+  narrow =
+      let named = else-zero (tlasMention tlases (tlas .0)) _ (not-refused .0) in
+      let judged = else-zero (blasMention blases (i .blas .0)) _ (named .1) in
+      leb-false (2 ^ 24) (i .«custom_data») (first-none _ _ (judged .1))
+
+  left-as : left ≡ sets b used (instanceBytes i (addressFor blases i))
+  unfolding appendBytes
+  left-as = appends .left ∙ ap (λ (a : Appending). bytesAfter a (sets b used (instanceBytes i (addressFor blases i))) b) (sym (appends .answer))
+
+  -- the 64 bytes that were in nobody's use
+  pub append-vk : take 64 (drop used left) ≡ vkBytes (vkInstance i (addressFor blases i))
+  append-vk =
+      let bytes = instanceBytes i (addressFor blases i) in
+      let long : length bytes ≡ 64 = bytes-length i (addressFor blases i) h g in
+      let fits = room-zero (length b) used (not-refused .1) in
+      let rest = drop (used + length bytes) b in
+      ap (λ (l : List ℕ). take 64 (drop used l)) (left-as ∙ sets-eq bytes b used (omega arith) ∙ append-assoc (take used b) bytes rest)
+      ∙ ap (take 64) (drop-at (take used b) (bytes ++ rest) used (length-take-le used b (omega arith)))
+      ∙ take-at bytes rest 64 long
+      ∙ vk-bytes i (addressFor blases i) h g narrow

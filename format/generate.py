@@ -1,0 +1,223 @@
+#!/usr/bin/env python3
+"""Writes docs/FORMAT.md from the format's description, and with --check only says whether it differs."""
+import pathlib
+import sys
+
+sys.dont_write_bytecode = True
+here = pathlib.Path(__file__).resolve().parent
+
+from layout import COUNT_WIDTH, HEAD, HEAD_SIZE, LONGEST, NONE, SECTIONS, section, single, size  # noqa: E402
+from refusals import CAUSES  # noqa: E402
+from text import make, show  # noqa: E402
+from walk import Walked, allowed_words, spoken  # noqa: E402
+
+EXAMPLE = """\
+# the smallest sheet that builds something: one triangle in one Tlas
+alignment 256
+counter 1
+
+buffer: size 36, marks BLAS_INPUT
+blas: kind triangles, scratch 300
+declared: blas 0, count 3, vertex_format 1, least_stride 12, stride_alignment 4
+tlas: scratch 100, most_instances 1
+
+entry: blas 0, kind triangles
+    geometry: count 3, stride 12, buffer 0, vertex_format 1
+package: tlas 0
+    slot: blas 0, mask 255, at 0.5 1.6 0
+
+action: kind build
+action: kind use, operand 0
+"""
+
+INTRODUCTION = """\
+# The sheet's format
+
+Made by `format/generate.py` from `format/layout.py` and `format/refusals.py`, which also serve `./zakvind --show`, `--make`, `--picture`,
+the words for a refused field, and the reading in `tests/`. `format/generate.py --check` says whether this page is what they make.
+
+A sheet says what acceleration structures there are, what is to be built, and what is then submitted. All numbers are little-endian. The
+head comes first, then nine sections in this order: a section is its count, a u16, and as many records, each its fields end to end. Nothing
+follows. The shortest sheet has {shortest} bytes, the longest {longest}. The tables that the library takes are the sections' records without the count.
+
+Fields are judged from the start on. Each has to be whole (else the sheet is refused by 2) and, if it is used, to have a value that it may
+have (else 5; the version: 1). A count has to be whole (2), within its limit (4) and, in a section that is drawn from, the sum of the counts
+that draw from it (5). A field that is not used is ignored, but its bytes are there. An id is a record's number in its table, from 0;
+whether it is inside the table is judged by a build or an action (6), but for a declared geometry's Blas, which the reader judges (5).
+"""
+
+AS_TEXT = """\
+## A sheet as text
+
+`./zakvind --show SHEET` prints a sheet as text, and `./zakvind --make TEXT > SHEET` makes the sheet of one. Shown and then made, a sheet
+that is read has the same bytes again, unused fields included. Of a refused sheet as much is shown as its bytes tell, with what is refused
+marked; what is cut off or left over is only said.
+
+- A line is a field of the head, as `alignment 256`, or a record: its name, a colon, and its fields with their values, with commas between.
+  A line that ends with a comma goes on in the next.
+- Records are {ones}.
+  Geometries stand below their entry, slots below their package; the counts follow from that. A record's number may stand before the
+  colon, `buffer 0:`, and then has to be the right one; that of a geometry or a slot counts within its entry or package.
+- A number is decimal, or hexadecimal after `0x`. Fields with named values take the names, marks and flags several with `+` between, as
+  `BLAS_INPUT+destroyed`. An index or transform buffer can be `none`.
+- `transform` has twelve numbers; a `/` may stand after each four. A number is rounded to the nearest float32, and is shown by as few digits
+  as give it back; a NaN is written by its bits, as `nan:7fc00000`. In a slot `at X Y Z` stands for the transform that only moves it there.
+- A field that is left out is 0, but: an index or transform buffer of triangles is `none`; a present byte is 1 if what it says is there is
+  given, and a slot's if any of its fields is; `version` is 1; counts are those of the text. A count that is given is taken as it is given.
+- `#` begins a comment. What stands in parentheses is a remark, and is ignored: so is shown what an id names, that a field is unused, and
+  what is refused.
+
+`--make` refuses, with status 2, line and field, what it can't write: an unknown name, a value that doesn't fit its bytes, a field given
+twice. A value that fits but that the reader refuses, such as `marks 9`, is made, with a warning that has line and field, and status 1.
+
+```
+{example}```
+
+It is shown so:
+
+```
+{shown}```
+"""
+
+PRINTED = """\
+## What is printed
+
+| Line | Numbers |
+|---|---|
+| `sheet` | the refusal's number, its byte place; nothing else is printed |
+| `build` | the refusal's number, 0 for none; E, two numbers; three figures. Of a refused build nothing else is printed |
+| `scratch` | the size |
+| `blas` | for each entry: id, scratch offset |
+| `tlas` | for each package: id, scratch offset, start and end of its instance bytes |
+| `submit` | the refusal's number, 0 for none; the action; two figures |
+| `next` | the counter |
+
+With nothing recorded, since what is built needs no scratch, only `build`, `submit` and `next` are printed, and kind 1 actions are passed
+over, keeping their positions. With `--explain`, and at a terminal, a line follows that says `nothing is refused`, or what is, in the words
+below; for 1 to 6 another names the field or the id.
+
+## Refusals
+
+E is entry and its geometry, or package and its slot, from 0; the second is 0 where there is none. In the library, a refused table is
+(section, record). "Both" is declared, given.
+"""
+
+
+def width_words(f):
+    kind = "f32" if f.float32 else f"u{8 * f.width}"
+    return f"{kind} × {f.times}" if f.times > 1 else kind
+
+
+def value_words(f):
+    if f.float32:
+        return "any bits"
+    named = ", ".join(f"{n} {name}" for n, name in (f.values or f.bits).items())
+    what = f.allowed[0]
+    if f.bits and what == "range":
+        return f"sums of {named}"
+    if f.bits:
+        return f"0 or {named}"
+    if named:
+        return named
+    if f.none:
+        return f"any; {NONE} none"
+    return "any" if what == "any" else allowed_words(f)
+
+
+def used_words(s, f):
+    words = []
+    for what, *of in f.used:
+        if what == "triangles":
+            words.append("of a triangle Blas" if s.kind == "blas" else "drawn by a triangle entry")
+        elif what == "given":
+            words.append(f"with {spoken(of[0])}")
+        elif what == "present":
+            words.append(f"if {of[0]} is not 0")
+        else:
+            words.append(f"if {of[0]} is not {of[1]}")
+    return ", ".join(words) or "always"
+
+
+def id_words(f):
+    if f.id_of:
+        return f"id of a {section(f.id_of).one}"
+    if f.id_by:
+        by, of = f.id_by
+        ones = [f"{section(k).one} ({by} {', '.join(str(v) for v, n in of.items() if n == k)})" for k in sorted(set(of.values()))]
+        return "id of a " + " or a ".join(ones)
+    return ""
+
+
+def note_words(f):
+    draws = f"how many {section(f.draws).name} it draws" if f.draws else ""
+    code = f"in code `{f.code}`" if f.code else ""
+    return "; ".join(filter(None, (id_words(f), draws, f.note, code)))
+
+
+def fields_table(s, fields):
+    yield "| At | Field | Width | Values | Used | What it is |"
+    yield "|---|---|---|---|---|---|"
+    seen = set()
+    for f, at, _ in single(fields):
+        if f.name in seen:
+            continue
+        seen.add(f.name)
+        yield f"| {at} | `{f.name}` | {width_words(f)} | {value_words(f)} | {used_words(s, f) if s else 'always'} | {note_words(f)} |"
+    yield ""
+
+
+def section_text(s):
+    yield f"### {s.number}. {s.title or s.name.capitalize()}"
+    yield ""
+    drawn = f" Drawn in turn by the {section(s.drawn_by).name}, whose counts have to add up to this section's." if s.drawn_by else ""
+    code = f" In code a record is `{s.code}`." if s.code else ""
+    yield f"At most {s.most}, of {size(s.fields)} bytes each.{drawn}{code}"
+    yield ""
+    yield from fields_table(s, s.fields)
+
+
+class Accepted:
+    """Nothing is refused."""
+
+    def mark_of(self, *_):
+        return ""
+
+    def marks_of(self, *_):
+        return ()
+
+
+def example_shown():
+    data, refused = make(EXAMPLE)
+    assert refused is None, refused
+    return show(Walked(data), Accepted())
+
+
+def page():
+    shortest = HEAD_SIZE + COUNT_WIDTH * len(SECTIONS)
+    yield INTRODUCTION.format(shortest=shortest, longest=f"{LONGEST:,}")
+    yield "## Head\n"
+    yield f"{HEAD_SIZE} bytes.\n"
+    yield from fields_table(None, HEAD)
+    yield "## Sections\n"
+    for s in SECTIONS:
+        yield from section_text(s)
+    ones = ", ".join(f"`{s.one}`" for s in SECTIONS)
+    yield AS_TEXT.format(ones=ones, example=EXAMPLE, shown=example_shown())
+    yield PRINTED
+    yield "| No. | Cause | Returned |\n|---|---|---|"
+    yield from (f"| {n} | {c.words} | {c.returned} |" for n, c in CAUSES.items())
+
+
+def main():
+    file = here.parent / "docs/FORMAT.md"
+    text = "\n".join(page()) + "\n"
+    if sys.argv[1:] == ["--check"]:
+        if not file.is_file() or file.read_text(encoding="utf-8") != text:
+            print("docs/FORMAT.md is not what format/generate.py makes")
+            sys.exit(1)
+    else:
+        file.write_text(text, encoding="utf-8")
+
+
+if __name__ == "__main__":
+    main()

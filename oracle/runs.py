@@ -1,0 +1,46 @@
+#!/usr/bin/env python3
+"""runs.py compare|robust COMMAND: takes what a run printed from standard input, passes it on, and writes its part of docs/RUNS.md."""
+import pathlib
+import re
+import sys
+
+PARTS = ("compare", "robust")
+HEAD = """# Runs
+
+What long runs of the static library gave, each as the run printed it: written by `oracle/compare N SEED --write` and `oracle/robust SECONDS`.
+`docs/DIFFERENCES.md` says what is compared and what could not be, `docs/ROBUSTNESS.md` how the boundary is tried.
+"""
+EMPTY = {"compare": "## Against the Rust\n\nNot run.\n", "robust": "## At the boundary\n\nNot run.\n"}
+file = pathlib.Path(__file__).resolve().parent.parent / "docs/RUNS.md"
+
+
+def number(text):
+    return f"{int(text):,}"
+
+
+def compare(command, lines):
+    out = ["## Against the Rust", "", f"`{command}`: " + re.sub(r", [\d.]+ s:", ":", lines[-1]) + "."]
+    marks = "the Rust's own | a stand-in's | the paper's |"
+    rows = [re.fullmatch(r"  (sheet|build|submit|append) +(\d+) +(\d+) +(\d+) +(\d+)", line) for line in lines]
+    parts = [re.fullmatch(r"  (.+?) +(\d+) +(\d+) +(\d+)", line) for line, row in zip(lines, rows) if not row]
+    out += ["", f"| Call | No. | {marks}", "|---|---|---|---|---|"]
+    out += ["| " + " | ".join((r[1], r[2], *map(number, r.groups()[2:]))) + " |" for r in rows if r]
+    out += ["", f"| Of accepted answers, and of 39 | {marks}", "|---|---|---|---|"]
+    out += ["| " + " | ".join((p[1], *map(number, p.groups()[1:]))) + " |" for p in parts if p]
+    out += ["", next(line for line in lines if line.startswith("not reached")).capitalize() + "."]
+    return "\n".join(out) + "\n"
+
+
+def robust(command, lines):
+    return "\n".join(["## At the boundary", "", f"`{command}`:", ""] + [f"- {line}" for line in lines if re.match(r"valgrind: |libFuzzer: ", line)]) + "\n"
+
+
+kind, command = sys.argv[1:]
+lines = []
+for line in sys.stdin:
+    sys.stdout.write(line)
+    lines.append(line.rstrip("\n"))
+text = file.read_text(encoding="utf-8") if file.is_file() else ""
+found = dict(zip(("compare", "robust"), re.findall(r"^## .*?(?=^## |\Z)", text, re.M | re.S)))
+parts = {**EMPTY, **found, kind: {"compare": compare, "robust": robust}[kind](command, lines)}
+file.write_text(HEAD + "\n" + "\n".join(parts[p].rstrip("\n") + "\n" for p in PARTS), encoding="utf-8")
