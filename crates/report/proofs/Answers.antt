@@ -37,7 +37,7 @@ use Rattle.report_submit.specs.Parts.{actionsIn, places, lentParts, submissionO
 use Rattle.report_submit.proofs.Laws.{cells-are}
 use Rattle.report.specs.declared.Came.{Came}
 use Rattle.report.specs.Parts.{cameOf, refusalOf, answerLinesOf, Answered, tableLines, tableRefusal}
-use Rattle.report.proofs.Room.{Roomy, build-with-room, lists-room}
+use Rattle.report_plan.proofs.Room.{Roomy, build-with-room, lists-room}
 
 pub never : true ≡ false → ⊥
 never e =

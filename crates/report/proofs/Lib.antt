@@ -1,4 +1,3 @@
-pub mod Room
 pub mod Lengths
 pub mod Answers
 pub mod Sections

@@ -221,7 +221,7 @@ fn put_built(
     )
 }
 
-// The records of a section.
+// The records of one section.
 fn part(sheet: &[u8], s: Section, size: usize) -> &[u8]
     requires { ⌜ (size ≤ 64) × (s .start + s .count * size ≤ length (now sheet)) ⌝ }
     ensures { λ r. ⌜ now r ≡ take (s .count * size) (drop (s .start) (now (sheet .entry))) ⌝ }

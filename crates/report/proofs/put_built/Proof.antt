@@ -1,7 +1,7 @@
 -- `report::put_built` meets its contract: the arrays have room for whatever is built.
 use native.Mathlib.Omega.{arith}
 use Rattle.ray_tracing.specs.Plan.{tablesOf}
-use Rattle.report.proofs.Room.{rooms, roomy}
+use Rattle.report_plan.proofs.Room.{rooms, roomy}
 use Rattle.report.proofs.Answers.{lists-fit, built-lines, built-refusal}
 use borrow.Author.Needs.{needs}
 use Rattle.report.proofs.put_built.Statement.{statement}
