@@ -381,7 +381,7 @@ planOf x =
 
 -- "Last: 39": each output against what this build writes
 abbrev pub short : List ℕ → List ℕ → Bool
-short values unlessNone = ltb (length unlessNone) (length values)
+short values lent = ltb (length lent) (length values)
 
 abbrev pub tooShort : Outputs → Outputs → Bool
 tooShort p o =
