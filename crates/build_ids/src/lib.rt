@@ -51,7 +51,7 @@ fn optional_mention(buffers: &[u8], id: BufferId) -> Mentioned
     if id.0 == NO_BUFFER {
         return Mentioned::Inside;
     }
-    buffer_mention(buffers, id.0 as usize)
+    buffer_mention(buffers, id)
 }
 
 // The j-th geometry of entry i, which is geometry g: its data buffer, and for triangles its index and transform buffers.
@@ -71,7 +71,7 @@ fn geometry_ids(
     let entry = entry_at(entries, i * ENTRY_SIZE);
     let geometry = geometry_at(geometries, g * GEOMETRY_SIZE);
     let id = geometry.buffer;
-    let data = mention_verdict(buffer_mention(buffers, id.0 as usize), i, j);
+    let data = mention_verdict(buffer_mention(buffers, id), i, j);
     if entry.kind != 0 {
         return data;
     }
@@ -129,7 +129,7 @@ fn entry_ids(
     let geometry = geometries_ids(buffers, entries, geometries, i, g, count);
     let entry = entry_at(entries, i * ENTRY_SIZE);
     let id = entry.blas;
-    let blas = mention_verdict(blas_mention(blases, id.0 as usize), i, 0);
+    let blas = mention_verdict(blas_mention(blases, id), i, 0);
     first(geometry, blas)
 }
 
@@ -206,7 +206,7 @@ fn package_ids(
     let slot = slots_ids(blases, slots, p, s, count);
     let package = package_at(packages, p * PACKAGE_SIZE);
     let id = package.tlas;
-    let tlas = mention_verdict(tlas_mention(tlases, id.0 as usize), p, 0);
+    let tlas = mention_verdict(tlas_mention(tlases, id), p, 0);
     first(slot, tlas)
 }
 

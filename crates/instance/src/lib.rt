@@ -75,7 +75,7 @@ fn check_named_instance(tlas: Tlas, blases: &[u8], instance: TlasInstance) -> Ch
 {
     let blas = instance.blas;
     let id = blas.0 as usize;
-    let mentioned = blas_mention(blases, id);
+    let mentioned = blas_mention(blases, blas);
     match mentioned {
         Mentioned::InvalidResource => { CheckedInstance::Refused(Error::InvalidResource) }
         Mentioned::Inside => check_instance(
@@ -96,7 +96,7 @@ fn check_named_tlas(
     ensures { λ r. ⌜ instanceCause r ≡ bare (namedTlasRule (now (tlases .entry)) (now (blases .entry)) tlas instance) ⌝ }
 {
     let id = tlas.0 as usize;
-    let mentioned = tlas_mention(tlases, id);
+    let mentioned = tlas_mention(tlases, tlas);
     match mentioned {
         Mentioned::InvalidResource => { CheckedInstance::Refused(Error::InvalidResource) }
         Mentioned::Inside => check_named_instance(
@@ -153,7 +153,7 @@ pub fn slot_mention(blases: &[u8], slots: &[u8], at: usize) -> Mentioned
     if u8_at(slots, at) == 0 {
         return Mentioned::Inside;
     }
-    blas_mention(blases, u16_at(slots, at + SLOT_BLAS) as usize)
+    blas_mention(blases, BlasId(u16_at(slots, at + SLOT_BLAS)))
 }
 
 pub fn check_slot(tlas: Tlas, blases: &[u8], slots: &[u8], at: usize) -> CheckedInstance

@@ -32,29 +32,29 @@ ghost use Rattle.ray_tracing.specs.Code.{mentionOf};
 // The bytes of a geometry's transform.
 pub const TRANSFORM_SIZE: u64 = 48;
 
-// A mention of an id, which is a number until it is judged here: one function for each sort.
-pub fn buffer_mention(table: &[u8], id: usize) -> Mentioned
-    ensures { λ r. ⌜ mentionOf r ≡ bufferMention (now (table .entry)) id ⌝ }
+// A mention of an id: one function for each sort.
+pub fn buffer_mention(table: &[u8], id: BufferId) -> Mentioned
+    ensures { λ r. ⌜ mentionOf r ≡ bufferMention (now (table .entry)) (id .0) ⌝ }
 {
-    if table.len() / BUFFER_SIZE <= id {
+    if table.len() / BUFFER_SIZE <= id.0 as usize {
         return Mentioned::InvalidResource;
     }
     Mentioned::Inside
 }
 
-pub fn blas_mention(table: &[u8], id: usize) -> Mentioned
-    ensures { λ r. ⌜ mentionOf r ≡ blasMention (now (table .entry)) id ⌝ }
+pub fn blas_mention(table: &[u8], id: BlasId) -> Mentioned
+    ensures { λ r. ⌜ mentionOf r ≡ blasMention (now (table .entry)) (id .0) ⌝ }
 {
-    if table.len() / BLAS_SIZE <= id {
+    if table.len() / BLAS_SIZE <= id.0 as usize {
         return Mentioned::InvalidResource;
     }
     Mentioned::Inside
 }
 
-pub fn tlas_mention(table: &[u8], id: usize) -> Mentioned
-    ensures { λ r. ⌜ mentionOf r ≡ tlasMention (now (table .entry)) id ⌝ }
+pub fn tlas_mention(table: &[u8], id: TlasId) -> Mentioned
+    ensures { λ r. ⌜ mentionOf r ≡ tlasMention (now (table .entry)) (id .0) ⌝ }
 {
-    if table.len() / TLAS_SIZE <= id {
+    if table.len() / TLAS_SIZE <= id.0 as usize {
         return Mentioned::InvalidResource;
     }
     Mentioned::Inside

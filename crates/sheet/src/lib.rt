@@ -6,7 +6,6 @@ use ray_tracing::SheetError;
 use ray_tracing::SheetRead;
 use sheet_fields::judge_records;
 use sheet_layout::size_of;
-pub use sheet_sections::judge_lent;
 use sheet_sections::judge_section;
 use wire::u8_at;
 use wire::u16_at;

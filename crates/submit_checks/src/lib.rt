@@ -26,7 +26,7 @@ pub enum Checked {
 pub fn judge_blas(blases: &[u8], id: BlasId) -> Checked
     ensures { λ r. ⌜ checkedCause r ≡ mentionBlas (blasesOf (now (blases .entry))) (id .0) ⌝ }
 {
-    if let Mentioned::InvalidResource = blas_mention(blases, id.0 as usize) {
+    if let Mentioned::InvalidResource = blas_mention(blases, id) {
         return Checked::Refused(ValidateAsActionsError::InvalidResource);
     }
     Checked::Fine
@@ -35,7 +35,7 @@ pub fn judge_blas(blases: &[u8], id: BlasId) -> Checked
 pub fn judge_tlas(tlases: &[u8], id: TlasId) -> Checked
     ensures { λ r. ⌜ checkedCause r ≡ mentionTlas (tablesOnly [] (now (tlases .entry))) (id .0) ⌝ }
 {
-    if let Mentioned::InvalidResource = tlas_mention(tlases, id.0 as usize) {
+    if let Mentioned::InvalidResource = tlas_mention(tlases, id) {
         return Checked::Refused(ValidateAsActionsError::InvalidResource);
     }
     Checked::Fine

@@ -26,6 +26,5 @@ slot-mention-spec =
     returns
     (λ c. search needs)
     (λ c κs. search needs)
-    (λ c. search needs)
     (λ c κs. search needs)
     returns-2)

@@ -12,4 +12,4 @@ returns-2 c = inside _ (c .before .before .tlas-mention .ensures) (c .enum-told2
 
 pub judge-tlas-spec : {M : Type 1} → statement M
 judge-tlas-spec =
-    tie.close (tie.spec (λ c. search needs) (λ c κs. search needs) (λ c. search needs) returns (λ c. search needs) returns-2)
+    tie.close (tie.spec (λ c κs. search needs) (λ c. search needs) returns (λ c. search needs) returns-2)
