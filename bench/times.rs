@@ -473,8 +473,8 @@ fn main() {
          its judging included, takes {a:.2} times as long; 512 instances appended by one call each {b:.2} times ({appended}).\n\n\
          What keeps these from twice a copy: a refused build leaves every byte, so all is judged before anything is written, and each slot is \
          looked at five times before its bytes are (its present byte, its id, its custom data and flags, and twice where present ones are \
-         counted) and once more for the recorded list; the bytes themselves take one pass. An appended instance is a call of its own with an \
-         answer of seven numbers, and its twelve numbers go through `f32`, with the patterns of NaNs beside them.\n\n\
+         counted) and once more for the recorded list; the bytes themselves take one pass. In either way an instance's twelve numbers go \
+         through `f32`, with the patterns of NaNs beside them; an appended one is a call of its own with an answer of seven numbers.\n\n\
          The program `zakvind` on a full sheet, from its start to its end: {program}.\n\n\
          ## How it grows\n\n\
          | Work | Rust | Rust, made | Zakvind | ratio | made |\n|---|---|---|---|---|---|\n{growth}\n\
