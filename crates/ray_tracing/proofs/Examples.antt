@@ -10,7 +10,7 @@ use Rattle.ray_tracing.specs.Layout.{Field, layout}
 use Rattle.ray_tracing.specs.Reading.{judgeFields, judgeRecords, judgeDrawn, sumOfCounts, judgeLent, past, from, judgeSection, judgeSections, judgeSheet, readSheet}
 use Rattle.ray_tracing.specs.Causes.{Cause, cause, bare}
 use Rattle.ray_tracing.specs.Instances.{presentOf, slotsBytes, slotBytes, instanceBytes, instanceFrom, words, patterns, wordsAt}
-use Rattle.ray_tracing.specs.Plan.{Tables, Building, recorded, not-built, planOf, build, firstOf, firstDrawing, declaredFrom, judgeTables, judgeIds, judgeEntries, judgePackages, totalFrom, offsetsFrom, scratchSize, judgeFinal, stagingFrom, rangesOfEntry, rangesFrom, compactableFrom, entryBlases, dependenciesFrom, packageLists}
+use Rattle.ray_tracing.specs.Plan.{Tables, tablesOf, Building, recorded, not-built, planOf, build, firstOf, firstDrawing, declaredFrom, judgeTables, judgeIds, judgeEntries, judgePackages, totalFrom, offsetsFrom, scratchSize, judgeFinal, stagingFrom, rangesOfEntry, rangesFrom, compactableFrom, entryBlases, dependenciesFrom, packageLists}
 use Rattle.ray_tracing.specs.Submission.{Lent, Piece, Outcome, accepted, refused, _leaving_, decode, submission, blasIn, tlasIn, listIn, judge, judgeLists, packagesAt, packagesLent, action, decodeCells, before, builtBlas, builtBlases, builtTlas, buildTlases, act, step, run}
 use Rattle.ray_tracing.proofs.DemandExamples.{lent, piece, lists-7, first-7, second-7}
 use Rattle.ray_tracing.specs.Writing.{sectionBytes, sheetBytes}
@@ -47,17 +47,7 @@ of k vs = bytesOf (layout k .fields) vs
 
 abbrev pub tables : List ℕ → List ℕ → List ℕ → List ℕ → List ℕ → List ℕ → List ℕ → List ℕ → Tables
 tables buffers blases declared tlases entries geometries packages slots =
-    record {
-      alignment = 256;
-      buffers = buffers;
-      blases = blases;
-      declared = declared;
-      tlases = tlases;
-      entries = entries;
-      geometries = geometries;
-      packages = packages;
-      slots = slots;
-    }
+    tablesOf 256 buffers blases declared tlases entries geometries packages slots
 
 -- a Blas of a kind with flags and scratch
 abbrev pub blas : ℕ → ℕ → ℕ → List ℕ
