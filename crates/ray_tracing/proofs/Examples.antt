@@ -13,7 +13,7 @@ use Rattle.ray_tracing.specs.Instances.{presentOf, slotsBytes, slotBytes
 use Rattle.ray_tracing.specs.Plan.{Tables, tablesOf, Building, recorded, not-built, planOf, build, firstOf, firstDrawing, declaredFrom, judgeTables, judgeIds, judgeEntries, judgePackages, totalFrom, offsetsFrom, scratchSize, judgeFinal, stagingFrom, rangesOfEntry, rangesFrom, compactableFrom, entryBlases, dependenciesFrom, packageLists}
 use Rattle.ray_tracing.specs.Submission.{Lent, Piece, Outcome, accepted, refused, _leaving_, decode, submission, blasIn, tlasIn, listIn, judge, judgeLists, packagesAt, packagesLent, action, decodeCells, before, builtBlas, builtBlases, builtTlas, buildTlases, act, step, run}
 use Rattle.ray_tracing.proofs.DemandExamples.{lent, piece, lists-7, first-7, second-7}
-use Rattle.ray_tracing.specs.Writing.{sectionBytes, sheetBytes}
+use Rattle.ray_tracing.specs.Canonical.{sectionBytes, sheetBytes}
 use Rattle.ray_tracing.specs.Report.{ascii, digits, spaced, line, blasLines, tlasLines, actionCells, positions, submitLines, builtLines, report}
 
 -- a whole input with its whole answer: of a build, the tables with room for what it writes, the answer, and the offsets of the Blases

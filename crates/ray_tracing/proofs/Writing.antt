@@ -14,7 +14,8 @@ use Rattle.wire.specs.Wire.{leAt, leBytes}
 use Rattle.wire.proofs.Laws.{le-drop, le-of-bytes, length-leBytes}
 use Rattle.ray_tracing.specs.Layout.{layout, size}
 use Rattle.ray_tracing.specs.Reading.{fine, judgeFields, judgeRecords, begin, past, from, judgeSection, judgeSections, judgeSheet, sectionOf, accepted, readSheet, judgeLent, table}
-use Rattle.ray_tracing.specs.Writing.{countOf, sectionBytes, headerBytes, sheetBytes, endOf, sectionWith, sheetWith}
+use Rattle.ray_tracing.specs.Canonical.{countOf, sectionBytes, headerBytes, sheetBytes}
+use Rattle.ray_tracing.specs.Writing.{endOf, sectionWith, sheetWith}
 use Rattle.ray_tracing.proofs.Each.{each}
 use Rattle.ray_tracing.proofs.Reading.{past-more}
 use Rattle.ray_tracing.proofs.Sheets.{Lent, lent-tells, lent-apart, lent-section, table-section}

@@ -12,6 +12,8 @@ pub mod Plan
 pub mod Submission
 pub mod History
 pub mod Claim
+pub mod Meaning
+pub mod Canonical
 pub mod Writing
 pub mod Report
 pub mod Explain

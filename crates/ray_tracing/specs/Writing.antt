@@ -1,32 +1,11 @@
--- Internal: the sheet of nine tables, and what is read of it. The laws about reading cite these, no entry point's contract does. Assumes
--- nothing.
-use Prim.Native.Nat.{ℕ, zero, suc, _+_, _-_, _/_}
-use mathlib.Core.List.{List, [], _∷_, _++_}
-use lib.ListN.{length, take, drop}
-use Rattle.wire.specs.Wire.{leBytes}
+-- Internal: what is read of the sheet of nine tables. The laws about reading cite these, no entry point's contract does. Assumes nothing.
+use Prim.Native.Nat.{ℕ, zero, suc, _+_}
+use mathlib.Core.List.{List}
+use lib.ListN.{length}
 use Rattle.ray_tracing.specs.declared.Section.{Section}
 use Rattle.ray_tracing.specs.declared.Sheet.{Sheet}
 use Rattle.ray_tracing.specs.Layout.{size}
-use Rattle.ray_tracing.specs.Reading.{past, from}
-use Rattle.ray_tracing.specs.Plan.{Tables}
-
--- how many records a table has
-abbrev pub countOf : (ℕ → List ℕ) → ℕ → ℕ
-countOf tables k = length (tables k) / size k
-
--- "Then sections in this order, each after a u16 count": the n sections after section k
-unfoldable pub sectionBytes : (ℕ → List ℕ) → ℕ → ℕ → List ℕ
-sectionBytes tables k zero = []
-sectionBytes tables k (suc n) = leBytes 2 (countOf tables (k + 1)) ++ (tables (k + 1) ++ sectionBytes tables (k + 1) n)
-
--- "Version byte 1, scratch alignment u32, counter u64"
-abbrev pub headerBytes : ℕ → ℕ → List ℕ
-headerBytes alignment counter = 1 ∷ leBytes 4 alignment ++ leBytes 8 counter
-
-unfoldable pub sheetBytes : ℕ → ℕ → (ℕ → List ℕ) → List ℕ
-sheetBytes alignment counter tables = headerBytes alignment counter ++ sectionBytes tables 0 9
-
--- what is read of it
+use Rattle.ray_tracing.specs.Canonical.{countOf}
 
 -- where section k ends
 unfoldable pub endOf : (ℕ → List ℕ) → ℕ → ℕ

@@ -154,6 +154,13 @@ pub enum SheetRead {
     Refused(SheetError, usize),
 }
 
+// What writing a sheet came to: how many bytes were written, why the sheet is not read and where, or too little room.
+pub enum SheetWritten {
+    Written(usize),
+    Refused(SheetError, usize),
+    TooShort,
+}
+
 // What a refusal speaks of.
 pub enum Resource {
     Buffer(BufferId),
@@ -354,6 +361,14 @@ pub struct SheetAnswer {
     pub slots_count: u64,
     pub actions_start: u64,
     pub actions_count: u64,
+}
+
+// What writing a sheet came to: number and place, and how many bytes were written.
+#[repr(C)]
+pub struct WriteAnswer {
+    pub number: u64,
+    pub place: u64,
+    pub written: u64,
 }
 
 // What a build came to: number, E and figures, or whether it is recorded, its scratch size and how many elements of each output
