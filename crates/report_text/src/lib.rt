@@ -1,5 +1,6 @@
 // Words, decimal numbers and lines in lent bytes.
 use ray_tracing::Reported;
+use wire::put_bytes;
 ghost use mathlib.Core.Path.{_≡_};
 ghost use Prim.Native.Nat.{_+_, _*_, _≤_};
 ghost use mathlib.Core.List.{[], _∷_};
@@ -14,12 +15,8 @@ pub fn put(out: &mut [u8], at: usize, text: &[u8]) -> usize
     requires { ⌜ at + length (now text) ≤ length (now out) ⌝ }
     ensures { λ r. ⌜ Put (now (out .entry)) at (now (text .entry)) r (now (out .exit)) ⌝ }
 {
-    let mut k: usize = 0;
-    while k < text.len() {
-        out[at + k] = text[k];
-        k += 1;
-    }
-    at + k
+    put_bytes(out, at, text);
+    at + text.len()
 }
 
 fn digit(n: u64) -> u8

@@ -1,0 +1,25 @@
+-- A record made canonical where it stands in a list of bytes. Assumes nothing.
+use Prim.Native.Nat.{ℕ, _+_, _*_, _/_, _<_}
+use mathlib.Core.Bool.{Bool, _||_}
+use mathlib.Core.Path.{_≡_}
+use mathlib.Core.List.{List}
+use lib.ListN.{length, take, drop}
+use lib.Dec.{eqb}
+use Rattle.wire.specs.Wire.{leAt}
+use Rattle.ray_tracing.specs.Layout.{Seen, layout, size}
+use Rattle.ray_tracing.specs.Canonical.{canonicalRecord}
+
+-- the sections that have fields which may be unused
+abbrev pub hasUnused : ℕ → Bool
+hasUnused k = eqb k 3 || (eqb k 6 || (eqb k 8 || eqb k 9))
+
+abbrev pub recordCleared : ℕ → Seen → List ℕ → ℕ → List ℕ
+recordCleared k c s at = canonicalRecord (layout k .fields) c (take (size k) (drop at s))
+
+-- of a declared geometry the fields after its Blas
+abbrev pub restCleared : Seen → List ℕ → ℕ → List ℕ
+restCleared c s at = canonicalRecord (drop 1 (layout 3 .fields)) c (take (size 3) (drop (at + 2) s))
+
+-- the Blases of n declared geometries from a place on are inside their table
+abbrev pub BlasesInside : ℕ → List ℕ → List ℕ → ℕ → ℕ → Type 0
+BlasesInside k t s at n = k ≡ 3 → (i : ℕ) → i < n → leAt 2 s (at + i * size 3) < length t / size 2
