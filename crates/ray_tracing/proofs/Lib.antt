@@ -9,6 +9,7 @@ pub mod Causes
 pub mod Sheets
 pub mod Longest
 pub mod Writing
+pub mod Zeroed
 pub mod Tables
 pub mod Firsts
 pub mod Judging

@@ -125,7 +125,7 @@ lent-apart k h e v w a b s =
 
 -- ---- a section and its table
 
-moved-fine : (a : ℕ) (j : Judged) → moved a j ≡ fine → j ≡ fine
+pub moved-fine : (a : ℕ) (j : Judged) → moved a j ≡ fine → j ≡ fine
 moved-fine a fine e = refl
 moved-fine a (refused n p) e = absurd (refused-not-fine n (a + p) e)
 
