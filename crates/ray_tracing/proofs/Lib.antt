@@ -10,6 +10,7 @@ pub mod Sheets
 pub mod Longest
 pub mod Writing
 pub mod Zeroed
+pub mod Held
 pub mod Tables
 pub mod Firsts
 pub mod Judging
