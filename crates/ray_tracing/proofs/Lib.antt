@@ -11,6 +11,8 @@ pub mod Longest
 pub mod Writing
 pub mod Zeroed
 pub mod Held
+pub mod ByBlas
+pub mod CanonicalTable
 pub mod Tables
 pub mod Firsts
 pub mod Judging

@@ -1,0 +1,215 @@
+-- A table that is judged fine, made canonical: it is as long, judged fine, and its records are the canonical ones in their order.
+use Prim.Native.Nat.{ℕ, zero, suc, _+_, _-_, _*_, _/_, _%_, _≤_, _<_}
+use native.Mathlib.Nat.{add-zero, zero-add, suc-mul, mul-div-cancel, mul-mod-left, div-add-mod'}
+use native.Mathlib.Decide.{ℕ-discrete}
+use native.Mathlib.Omega.{arith}
+use mathlib.Core.Bool.{Bool, true, false, cond}
+use mathlib.Core.Path.{_≡_, refl, sym, ap, _∙_, subst}
+use mathlib.Core.List.{List, [], _∷_, _++_, map, flatten, append-nil}
+use mathlib.Core.Option.{Option}
+use lib.Dec.{eqb}
+use lib.ListN.{length, getD, take, drop, length-append, length-drop}
+use lib.Seq.{take-take, take-add, take-all, getD-take, getD-drop}
+use borrow.Author.Tests.{eqb-true, eq-eqb, ne-eqb, ltb-true}
+use Rattle.wire.specs.Wire.{leAt}
+use Rattle.wire.proofs.Laws.{le-append-left, le-take}
+use Rattle.ray_tracing.specs.Layout.{Seen, Field, always, inside, kindKnown, u16, telling, layout, total, size}
+use Rattle.ray_tracing.specs.Reading.{fine, judgeField, judgeFields, judgeRecords, judgeDrawn, judgeTable, judgeLent, sumOfCounts, addsUp, begin, ofBoxes, drawnCount}
+use Rattle.ray_tracing.specs.Meaning.{Held, recordsFrom, drawnFrom, recordsOf, ofBlas, byBlas, declaredLists, recordMeaning, heldMeaning}
+use Rattle.ray_tracing.specs.Canonical.{canonicalRecord, heldCanonical, inOrder, canonicalTable}
+use Rattle.ray_tracing.proofs.Each.{each, size-positive}
+use Rattle.ray_tracing.proofs.Instances.{Below}
+use Rattle.ray_tracing.proofs.Reading.{or-fine}
+use Rattle.ray_tracing.proofs.Sheets.{Lent, lent-tells, lent-of, field-allowed}
+use Rattle.ray_tracing.proofs.Zeroed.{Alike, layouts-alike, recordOf, of-meaning}
+use Rattle.ray_tracing.proofs.Held.{All, all-append, all-by, Fine, fine-whole, records-each, records-all, records-count, records-seen, drawn-each, drawn-all, bytesIn, remade, bytes-length, cut, cut-drawn, remade-fine, remade-means, flatten-append}
+use Rattle.ray_tracing.proofs.ByBlas.{blasOf, ordered-length}
+
+-- what is known of the table s of section k, after the table t
+pub record Made (k : ℕ) (t s : List ℕ) : Type 0 where
+  -- its records are judged fine, in the order in which they are written too
+  pub held : All (Fine (layout k .fields)) (recordsOf k t s)
+  pub listed : All (Fine (layout k .fields)) (inOrder k t s)
+  -- of the canonical table
+  pub length′ : length (canonicalTable k t s) ≡ length s
+  pub records′ : recordsOf k t (canonicalTable k t s) ≡ map (remade (layout k .fields)) (inOrder k t s)
+  pub fine′ : judgeLent k (layout k) (size (k - 1)) t (canonicalTable k t s) ≡ fine
+
+-- ---- sections whose records begin alike
+
+module _ (k : ℕ) (h : k < 10) (six : eqb k 6 ≡ false) (t s : List ℕ) (f : judgeLent k (layout k) (size (k - 1)) t s ≡ fine) where
+  abbrev fs : List Field
+  fs = layout k .fields
+
+  abbrev c : Seen
+  c = begin (size (k - 1)) t false
+
+  abbrev n : ℕ
+  n = length s / size k
+
+  lent : Lent k (layout k) (size (k - 1)) t s
+  lent = lent-tells k (layout k) (size (k - 1)) t s f
+
+  count-size : n * size k ≡ length s
+  count-size = omega (arith, lent .whole, div-add-mod' (length s) (size k))
+
+  held-each : All (Fine fs) (recordsFrom c (size k) s n)
+  held-each = records-each fs c n s 0 (omega arith) (rw six at (lent .records))
+
+  -- what is shown of the records in the order in which they are written
+  module _
+      (ys : List Held)
+      (seen : All (λ x. x .seen ≡ c) ys)
+      (each-fine : All (Fine fs) ys)
+      (many : length ys ≡ n)
+    where
+    abbrev table′ : List ℕ
+    table′ = flatten (map (bytesIn fs) ys)
+
+    as-long : length table′ ≡ length s
+    as-long = bytes-length fs ys each-fine ∙ ap (λ (m : ℕ). m * size k) many ∙ count-size
+
+    records-are : recordsFrom c (size k) table′ (length table′ / size k) ≡ map (remade fs) ys
+    records-are =
+        rw (as-long, ← many)
+        (subst (λ (u : List ℕ). recordsFrom c (size k) u (length ys) ≡ map (remade fs) ys) (append-nil table′)
+        (cut fs c ys [] seen each-fine))
+
+    lent-again : judgeLent k (layout k) (size (k - 1)) t table′ ≡ fine
+    lent-again =
+        lent-of k (layout k) (size (k - 1)) t table′
+        (record {
+          few = rw as-long (lent .few);
+          sum = rw as-long (lent .sum);
+          records =
+              rw six
+              (records-all fs c (length table′ / size k) table′ 0 (rw as-long (omega (arith, count-size)))
+              (rw records-are (remade-fine fs (layouts-alike k h) ys each-fine)));
+          whole = rw as-long (lent .whole);
+        })
+
+    made-of : inOrder k t s ≡ ys → Made k t s
+    unfolding canonicalTable
+    made-of e =
+        record {
+          held = rw six held-each;
+          listed = rw e each-fine;
+          length′ = rw e as-long;
+          records′ = rw (e, six) records-are;
+          fine′ = rw e lent-again;
+        }
+
+  -- in their old order
+  pub made-as-read : eqb k 3 ≡ false → Made k t s
+  made-as-read three =
+      made-of (recordsFrom c (size k) s n) (records-seen fs c n s) held-each (records-count fs c n s) (rw (three, six))
+
+-- ---- declared geometries, by Blas
+
+all-and :
+    (P Q R : Held → Type 0)
+    → ((x : Held) → P x → Q x → R x)
+    → (xs : List Held)
+    → All P xs
+    → All Q xs
+    → All R xs
+all-and P Q R g [] p q = tt
+all-and P Q R g (x ∷ xs) p q = (g x (p .0) (q .0), all-and P Q R g xs (p .1) (q .1))
+
+abbrev declaredFields : List Field
+declaredFields = layout 3 .fields
+
+abbrev blasField : Field
+blasField = telling kindKnown (u16 always inside)
+
+-- a declared geometry that is judged fine names a Blas of the table t
+pub inside-blases :
+    (t : List ℕ) (x : Held)
+    → Fine declaredFields x
+    → x .seen ≡ begin (size 2) t false
+    → blasOf x < length t / size 2
+unfolding judgeFields
+inside-blases t x e s =
+    let f = rw s at e in
+    let p = or-fine (judgeField (begin (size 2) t false) (x .bytes) 0 blasField) _ f in
+    ltb-true (blasOf x) (length t / size 2) (field-allowed (begin (size 2) t false) (x .bytes) 0 blasField (p .0) refl)
+
+pub made-declared : (t s : List ℕ) → judgeLent 3 (layout 3) (size 2) t s ≡ fine → Made 3 t s
+made-declared t s f =
+    let c = begin (size 2) t false in
+    let n = length s / size 3 in
+    let xs = recordsFrom c (size 3) s n in
+    let m = length t / size 2 in
+    let seen = records-seen declaredFields c n s in
+    let good = held-each 3 (omega arith) refl t s f in
+    made-of 3 (omega arith) refl t s f (flatten (byBlas xs 0 m)) (all-by (λ x. x .seen ≡ c) xs seen 0 m) (all-by (Fine declaredFields) xs good 0 m)
+    (ordered-length m xs (all-and (Fine declaredFields) (λ x. x .seen ≡ c) (λ x. blasOf x < m) (inside-blases t) xs good seen)
+    ∙ records-count declaredFields c n s)
+    refl
+
+-- ---- geometries, by the entries that draw them
+
+drawn-count : (t : List ℕ) (n q : ℕ) (s : List ℕ) → length (drawnFrom t q s n) ≡ sumOfCounts t (size 5) (q + 3) n
+unfolding drawnFrom sumOfCounts
+drawn-count t zero q s = refl
+drawn-count t (suc n) q s =
+    let e : q + 5 + 3 ≡ q + 3 + 5 = omega arith in
+    rw (length-append, records-count (layout 6 .fields) (begin (size 5) t (ofBoxes t q)) (drawnCount t q) s, drawn-count t n (q + size 5) (drop (drawnCount t q * size 6) s), e)
+
+module _ (t s : List ℕ) (f : judgeLent 6 (layout 6) (size 5) t s ≡ fine) where
+  abbrev entries : ℕ
+  entries = length t / size 5
+
+  abbrev drawn : List Held
+  drawn = drawnFrom t 0 s entries
+
+  lent-6 : Lent 6 (layout 6) (size 5) t s
+  lent-6 = lent-tells 6 (layout 6) (size 5) t s f
+
+  drawn-fine : All (Fine (layout 6 .fields)) drawn
+  drawn-fine = drawn-each t entries 0 s 0 (omega arith) (lent-6 .records)
+
+  abbrev drawn′ : List ℕ
+  drawn′ = flatten (map (bytesIn (layout 6 .fields)) drawn)
+
+  all-drawn : sumOfCounts t (size 5) 3 entries * size 6 ≡ length s
+  all-drawn =
+      let e = eqb-true (sumOfCounts t (size 5) 3 entries) (length s / size 6) (lent-6 .sum) in
+      rw e (omega (arith, lent-6 .whole, div-add-mod' (length s) (size 6)))
+
+  drawn-length : length drawn′ ≡ length s
+  drawn-length =
+      bytes-length (layout 6 .fields) drawn drawn-fine ∙ ap (λ (m : ℕ). m * size 6) (drawn-count t entries 0 s) ∙ all-drawn
+
+  drawn-are : drawnFrom t 0 drawn′ entries ≡ map (remade (layout 6 .fields)) drawn
+  drawn-are =
+      subst (λ (u : List ℕ). drawnFrom t 0 u entries ≡ map (remade (layout 6 .fields)) drawn) (append-nil drawn′)
+      (cut-drawn t entries 0 s [] drawn-fine)
+
+  drawn-lent : judgeLent 6 (layout 6) (size 5) t drawn′ ≡ fine
+  drawn-lent =
+      lent-of 6 (layout 6) (size 5) t drawn′
+      (record {
+        few = rw drawn-length (lent-6 .few);
+        sum = rw drawn-length (lent-6 .sum);
+        records =
+            drawn-all t entries 0 drawn′ 0 (omega (arith, all-drawn, drawn-length))
+            (rw drawn-are (remade-fine (layout 6 .fields) (layouts-alike 6 (omega arith)) drawn drawn-fine));
+        whole = rw drawn-length (lent-6 .whole);
+      })
+
+  pub made-drawn : Made 6 t s
+  unfolding canonicalTable
+  made-drawn = record { held = drawn-fine; listed = drawn-fine; length′ = drawn-length; records′ = drawn-are; fine′ = drawn-lent }
+
+-- ---- any section
+
+pub made : (k : ℕ) → k < 10 → (t s : List ℕ) → judgeLent k (layout k) (size (k - 1)) t s ≡ fine → Made k t s
+made k h t s f =
+    elim (ℕ-discrete k 6) [
+      | yes e ↦ subst (λ (j : ℕ). judgeLent j (layout j) (size (j - 1)) t s ≡ fine → Made j t s) (sym e) (made-drawn t s) f
+      | no d ↦ elim (ℕ-discrete k 3) [
+        | yes e ↦ subst (λ (j : ℕ). judgeLent j (layout j) (size (j - 1)) t s ≡ fine → Made j t s) (sym e) (made-declared t s) f
+        | no g ↦ made-as-read k h (ne-eqb k 6 d) t s f (ne-eqb k 3 g)
+      ]
+    ]
