@@ -41,7 +41,7 @@ module _ (P : Held → Type 0) where
   all-right [] ys a = a
   all-right (x ∷ xs) ys a = all-right xs ys (a .1)
 
-  all-of : (b : ℕ) (xs : List Held) → All P xs → All P (ofBlas b xs)
+  pub all-of : (b : ℕ) (xs : List Held) → All P xs → All P (ofBlas b xs)
   unfolding ofBlas
   all-of b [] a = tt
   all-of b (x ∷ xs) a = go (eqb (leAt 2 (x .bytes) 0) b) (all-of b xs (a .1))

@@ -13,6 +13,7 @@ pub mod Zeroed
 pub mod Held
 pub mod ByBlas
 pub mod CanonicalTable
+pub mod TableMeaning
 pub mod Tables
 pub mod Firsts
 pub mod Judging
