@@ -14,6 +14,7 @@ pub mod Held
 pub mod ByBlas
 pub mod CanonicalTable
 pub mod TableMeaning
+pub mod Canonical
 pub mod Tables
 pub mod Firsts
 pub mod Judging

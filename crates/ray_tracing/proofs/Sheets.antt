@@ -236,6 +236,9 @@ module _ (s : List ℕ) (x : Sheet) (e : readSheet s ≡ accepted x) where
   pub accepted-is : x ≡ sheetOf s
   accepted-is = sym (judged .1)
 
+  pub accepted-version : leAt 1 s 0 ≡ 1
+  accepted-version = eqb-true (leAt 1 s 0) 1 (not-false _ (on-fine _ 1 0 (parts .1 .0)))
+
   pub accepted-alignment : 0 < x .alignment
   unfolding judgeRecords judgeFields
   accepted-alignment =

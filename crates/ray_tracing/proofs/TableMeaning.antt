@@ -83,7 +83,7 @@ used-fields =
     yes′ : Seen → true ≡ true
     yes′ c = refl
 
-or-false : (a b : Bool) → (a || b) ≡ false → (a ≡ false) × (b ≡ false)
+pub or-false : (a b : Bool) → (a || b) ≡ false → (a ≡ false) × (b ≡ false)
 or-false false b e = (refl, e)
 or-false true b e = absurd (true≢false e)
 
@@ -146,14 +146,14 @@ declared-means t s m =
 
 -- ---- the bytes of a meaning
 
-below-take : (n : ℕ) (s : List ℕ) → Below s → Below (take n s)
+pub below-take : (n : ℕ) (s : List ℕ) → Below s → Below (take n s)
 below-take n s b k =
     elim (decLt k n) [
       | yes l ↦ rw (getD-take n s k 0 l) (b k)
       | no l ↦ rw (List·getD-eq-default (take n s) 0 {n = k} (rw length-take (omega arith))) (omega arith)
     ]
 
-below-drop : (n : ℕ) (s : List ℕ) → Below s → Below (drop n s)
+pub below-drop : (n : ℕ) (s : List ℕ) → Below s → Below (drop n s)
 below-drop n s b k = rw getD-drop (b (n + k))
 
 abbrev BytesBelow : Held → Type 0

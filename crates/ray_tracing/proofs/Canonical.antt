@@ -1,0 +1,408 @@
+-- "Reading its output gives the same meaning; two sheets give equal output exactly when they mean the same": of the canonical sheet, and
+-- of what a call left.
+use Prim.Native.Nat.{ℕ, zero, suc, _+_, _-_, _*_, _/_, _^_, _≤_, _<_}
+use native.Mathlib.Nat.{zero-add, mul-div-cancel}
+use native.Mathlib.Numerals.{add-one}
+use native.Mathlib.Omega.{arith}
+use mathlib.Core.Bool.{Bool, true, false, cond, true≢false, false≢true}
+use mathlib.Core.Path.{_≡_, refl, sym, ap, _∙_, subst}
+use mathlib.Core.Logic.{_↔_}
+use mathlib.Core.List.{List, [], _∷_, _++_, map, flatten}
+use mathlib.Core.Option.{Option, none, some}
+use lib.Dec.{eqb, ltb, lit<}
+use lib.ListN.{length, getD, take, drop}
+use lib.Seq.{sets, sets-eq, take-at}
+use borrow.Author.Tests.{ltb-true, ltb-false}
+use Rattle.wire.specs.Wire.{leAt, leBytes}
+use Rattle.wire.proofs.Laws.{le-below, le-drop}
+use Rattle.ray_tracing.specs.declared.Sheet.{Sheet}
+use Rattle.ray_tracing.specs.Layout.{Seen, Field, layout, size}
+use Rattle.ray_tracing.specs.Reading.{fine, judgeLent, past, from, table, begin, sectionOf, sheetOf, Reading, accepted, rejected, readSheet}
+use Rattle.ray_tracing.specs.Meaning.{recordsFrom, recordsOf, declaredLists, recordMeaning, heldMeaning, sectionMeaning, Meaning, meaning}
+use Rattle.ray_tracing.specs.Canonical.{sectionBytes, headerBytes, sheetBytes, countOf, canonicalTable, canonicalTables, canonical, Writing, written, unwritten, afterReading, writeRule, writingLeaves, WritesSheet}
+use Rattle.ray_tracing.specs.Writing.{endOf, sectionWith, sheetWith}
+use Rattle.ray_tracing.proofs.Each.{each, size-positive}
+use Rattle.ray_tracing.proofs.Instances.{Below}
+use Rattle.ray_tracing.proofs.Reading.{past-more}
+use Rattle.ray_tracing.proofs.Sheets.{leans, lent-apart, accepted-is, accepted-version, accepted-alignment, accepted-end, accepted-whole, accepted-lent, accepted-length}
+use Rattle.ray_tracing.proofs.Writing.{end-more, written-table, written-read}
+use Rattle.ray_tracing.proofs.CanonicalTable.{Made, made}
+use Rattle.ray_tracing.proofs.TableMeaning.{or-false, below-take, below-drop, mayBeUnused, used-table, table-means, declared-means, bytesOf, table-of, declared-of}
+
+-- ---- the section before
+
+-- one that the next leans on is there, and its fields are all used
+leant-on : (k : ℕ) → k < 9 → leans (k + 1) ≡ true → (ltb 0 k ≡ true) × (mayBeUnused k ≡ false)
+leant-on =
+    each (λ (k : ℕ). leans (k + 1) ≡ true → (ltb 0 k ≡ true) × (mayBeUnused k ≡ false)) 9 (
+      never,
+      (never, ((λ e. (refl, refl)), (never, (never, ((λ e. (refl, refl)), (never, ((λ e. (refl, refl)), (never, tt)))))))),
+    )
+  where
+    never : {A : Type 0} → false ≡ true → A
+    never e = absurd (false≢true e)
+
+-- one that the next does not lean on says nothing of what that means
+record-apart :
+    (k : ℕ)
+    → k < 10
+    → leans k ≡ false
+    → (v w : ℕ) (a b r : List ℕ)
+    → recordMeaning (layout k .fields) (begin v a false) r ≡ recordMeaning (layout k .fields) (begin w b false) r
+unfolding recordMeaning
+record-apart =
+    each
+    (λ (k : ℕ).
+    leans k ≡ false
+    → (v w : ℕ) (a b r : List ℕ)
+    → recordMeaning (layout k .fields) (begin v a false) r ≡ recordMeaning (layout k .fields) (begin w b false) r) 10 (
+      (λ e v w a b r. refl),
+      (
+        (λ e v w a b r. refl),
+        (
+          (λ e v w a b r. refl),
+          (
+            (λ e. absurd (true≢false e)),
+            (
+              (λ e v w a b r. refl),
+              (
+                (λ e v w a b r. refl),
+                (
+                  (λ e. absurd (true≢false e)),
+                  (
+                    (λ e v w a b r. refl),
+                    ((λ e. absurd (true≢false e)), ((λ e v w a b r. refl), tt)),
+                  ),
+                ),
+              ),
+            ),
+          ),
+        ),
+      ),
+    )
+
+records-apart :
+    (fs : List Field) (c d : Seen) (w : ℕ)
+    → ((r : List ℕ) → recordMeaning fs c r ≡ recordMeaning fs d r)
+    → (n : ℕ) (u : List ℕ)
+    → map (λ y. recordMeaning fs (y .seen) (y .bytes)) (recordsFrom c w u n)
+    ≡ map (λ y. recordMeaning fs (y .seen) (y .bytes)) (recordsFrom d w u n)
+unfolding recordsFrom
+records-apart fs c d w e zero u = refl
+records-apart fs c d w e (suc n) u = rw (e (take w u), records-apart fs c d w e n (drop w u))
+
+means-apart :
+    (k : ℕ)
+    → k < 10
+    → leans k ≡ false
+    → (t₁ t₂ u : List ℕ)
+    → map (heldMeaning k) (recordsOf k t₁ u) ≡ map (heldMeaning k) (recordsOf k t₂ u)
+means-apart k h l t₁ t₂ u =
+    let six = or-false (eqb k 6) (eqb k 8) (or-false (eqb k 3) _ l .1) .0 in
+    let w = size (k - 1) in
+    rw six
+    (records-apart (layout k .fields) (begin w t₁ false) (begin w t₂ false) (size k) (record-apart k h l w w t₁ t₂) (length u / size k) u)
+
+header-of :
+    (s : List ℕ) → recordMeaning (layout 0 .fields) (begin 0 [] false) (drop 1 s) ≡ some (leAt 4 s 1) ∷ some (leAt 8 s 5) ∷ []
+unfolding recordMeaning
+header-of s =
+    rw (le-drop 4 1 s 0, le-drop 8 4 (drop 1 s) 0, le-drop 8 1 s 4)
+
+below-table : (s : List ℕ) (k : ℕ) → Below s → Below (table s k)
+below-table s k b = below-take (past s k - from s k) (drop (from s k) s) (below-drop (from s k) s b)
+
+-- ---- an accepted sheet
+
+module _ (s : List ℕ) (x : Sheet) (e : readSheet s ≡ accepted x) where
+  -- section k is judged fine, and made canonical
+  lent-at : (k : ℕ) → 0 < k → k < 10 → judgeLent k (layout k) (size (k - 1)) (table s (k - 1)) (table s k) ≡ fine
+  lent-at k p h =
+      let j : k - 1 + 1 ≡ k = omega arith in
+      rw j at (accepted-lent s x e (k - 1) (omega arith))
+
+  pub made-at : (k : ℕ) → 0 < k → k < 10 → Made k (table s (k - 1)) (table s k)
+  made-at k p h = made k h (table s (k - 1)) (table s k) (lent-at k p h)
+
+  -- a section that the next one leans on has all fields used
+  kept : (k : ℕ) → 0 < k → k < 10 → mayBeUnused k ≡ false → canonicalTables s k ≡ table s k
+  kept k p h u = used-table k h u (table s (k - 1)) (table s k) (lent-at k p h)
+
+  kept-before : (k : ℕ) → k < 9 → leans (k + 1) ≡ true → canonicalTables s k ≡ table s k
+  kept-before k h l =
+      let f = leant-on k h l in
+      kept k (ltb-true 0 k (f .0)) (omega arith) (f .1)
+
+  abbrev tables : ℕ → List ℕ
+  tables = canonicalTables s
+
+  lent-again : (k : ℕ) → k < 9 → judgeLent (k + 1) (layout (k + 1)) (size k) (tables k) (tables (k + 1)) ≡ fine
+  lent-again k h = go (leans (k + 1)) refl
+    where
+      j : k + 1 - 1 ≡ k
+      j = omega arith
+
+      f : judgeLent (k + 1) (layout (k + 1)) (size k) (table s k) (tables (k + 1)) ≡ fine
+      f =
+          subst (λ (i : ℕ). judgeLent (k + 1) (layout (k + 1)) (size i) (table s i) (tables (k + 1)) ≡ fine) j
+          (made-at (k + 1) (omega arith) (omega arith) .fine′)
+
+      go : (b : Bool) → leans (k + 1) ≡ b → judgeLent (k + 1) (layout (k + 1)) (size k) (tables k) (tables (k + 1)) ≡ fine
+      go true l = rw (kept-before k h l) f
+      go false l = lent-apart (k + 1) (omega arith) l (size k) (size k) (tables k) (table s k) (tables (k + 1)) ∙ f
+
+  -- it stands where it stood
+  length-at : (k : ℕ) → k < 9 → length (tables (k + 1)) ≡ leAt 2 s (past s k) * size (k + 1)
+  length-at k h = made-at (k + 1) (omega arith) (omega arith) .length′ ∙ accepted-length s x e k h
+
+  end-same : (k : ℕ) → k ≤ 9 → endOf tables k ≡ past s k
+  end-same zero h = unfold endOf past in refl
+  end-same (suc k) h =
+      rw (← add-one k, end-more tables k, length-at k (omega arith), past-more s k, end-same k (omega arith))
+
+  count-same : (k : ℕ) → k < 9 → countOf tables (k + 1) ≡ leAt 2 s (past s k)
+  count-same k h = rw (length-at k h) (mul-div-cancel (leAt 2 s (past s k)) (size-positive (k + 1) (omega arith)))
+
+  section-same : (k : ℕ) → k < 9 → sectionWith tables k ≡ sectionOf s k
+  section-same k h = λ i. record { start = end-same k (omega arith) i + 2; count = count-same k h i }
+
+  sheet-same : sheetWith (leAt 4 s 1) (leAt 8 s 5) tables ≡ x
+  sheet-same =
+      (λ i. record {
+        version = sym (accepted-version s x e) i;
+        alignment = leAt 4 s 1;
+        counter = leAt 8 s 5;
+        buffers = section-same 0 (lit< tt) i;
+        blases = section-same 1 (lit< tt) i;
+        declared = section-same 2 (lit< tt) i;
+        tlases = section-same 3 (lit< tt) i;
+        entries = section-same 4 (lit< tt) i;
+        geometries = section-same 5 (lit< tt) i;
+        packages = section-same 6 (lit< tt) i;
+        slots = section-same 7 (lit< tt) i;
+        actions = section-same 8 (lit< tt) i;
+      })
+      ∙ sym (accepted-is s x e)
+
+  module _ (b : Below s) where
+    pub output-read : readSheet (canonical s) ≡ accepted x
+    unfolding canonical
+    output-read =
+        written-read (leAt 4 s 1) (leAt 8 s 5) tables lent-again
+        (rw (accepted-is s x e) at (accepted-alignment s x e)) (le-below 4 s 1 b) (le-below 8 s 5 b)
+        ∙ ap accepted sheet-same
+
+    table-at : (k : ℕ) → 0 < k → k < 10 → table (canonical s) k ≡ tables k
+    unfolding canonical
+    table-at k p h =
+        let j : k - 1 + 1 ≡ k = omega arith in
+        rw j at (written-table (leAt 4 s 1) (leAt 8 s 5) tables lent-again (k - 1) (omega arith))
+
+    -- ---- it means the same
+
+    section-means : (k : ℕ) → 0 < k → k < 10 → eqb k 3 ≡ false → sectionMeaning (canonical s) k ≡ sectionMeaning s k
+    section-means k p h three =
+        ap (λ (u : List ℕ). map (heldMeaning k) (recordsOf k (table (canonical s) (k - 1)) u)) (table-at k p h)
+        ∙ go (leans k) refl
+        ∙ table-means k h (table s (k - 1)) (table s k) (made-at k p h) three
+      where
+        go :
+            (l : Bool)
+            → leans k ≡ l
+            → map (heldMeaning k) (recordsOf k (table (canonical s) (k - 1)) (tables k)) ≡ map (heldMeaning k) (recordsOf k (table s (k - 1)) (tables k))
+        go true l =
+            let j : k ≡ k - 1 + 1 = omega arith in
+            let l′ : leans (k - 1 + 1) ≡ true = sym (ap leans j) ∙ l in
+            let f = leant-on (k - 1) (omega arith) l′ in
+            ap (λ (t : List ℕ). map (heldMeaning k) (recordsOf k t (tables k)))
+            (table-at (k - 1) (ltb-true 0 (k - 1) (f .0)) (omega arith) ∙ kept-before (k - 1) (omega arith) l′)
+        go false l = means-apart k h l (table (canonical s) (k - 1)) (table s (k - 1)) (tables k)
+
+    declared-same :
+        map (map (heldMeaning 3)) (declaredLists (table (canonical s) 2) (table (canonical s) 3))
+        ≡ map (map (heldMeaning 3)) (declaredLists (table s 2) (table s 3))
+    declared-same =
+        rw (table-at 2 (omega arith) (omega arith), table-at 3 (omega arith) (omega arith), kept 2 (omega arith) (omega arith) refl)
+        (declared-means (table s 2) (table s 3) (made-at 3 (omega arith) (omega arith)))
+
+    fields-same : sheetOf (canonical s) ≡ sheetOf s
+    fields-same = sym (accepted-is (canonical s) x output-read) ∙ accepted-is s x e
+
+    pub output-means : meaning (canonical s) ≡ meaning s
+    unfolding meaning
+    output-means = λ i. record {
+      version = ap (λ (y : Sheet). y .version) fields-same i;
+      header =
+          (header-of (canonical s)
+          ∙ ap (λ (y : Sheet). some (y .alignment) ∷ some (y .counter) ∷ []) fields-same
+          ∙ sym (header-of s)) i;
+      buffers = section-means 1 (omega arith) (omega arith) refl i;
+      blases = section-means 2 (omega arith) (omega arith) refl i;
+      declared = declared-same i;
+      tlases = section-means 4 (omega arith) (omega arith) refl i;
+      entries = section-means 5 (omega arith) (omega arith) refl i;
+      geometries = section-means 6 (omega arith) (omega arith) refl i;
+      packages = section-means 7 (omega arith) (omega arith) refl i;
+      slots = section-means 8 (omega arith) (omega arith) refl i;
+      actions = section-means 9 (omega arith) (omega arith) refl i;
+    }
+
+    -- ---- it is made of what it means
+
+    section-of : (k : ℕ) → 0 < k → k < 10 → eqb k 3 ≡ false → bytesOf k (sectionMeaning s k) ≡ tables k
+    section-of k p h three = table-of k (table s (k - 1)) (table s k) (made-at k p h) (below-table s k b) three
+
+    declared-lists-of :
+        flatten (map (bytesOf 3) (map (map (heldMeaning 3)) (declaredLists (table s 2) (table s 3)))) ≡ tables 3
+    declared-lists-of = declared-of (table s 2) (table s 3) (made-at 3 (omega arith) (omega arith)) (below-table s 3 b)
+
+-- ---- two of them
+
+sections-cong :
+    (T U : ℕ → List ℕ) → ((k : ℕ) → k < 9 → T (k + 1) ≡ U (k + 1)) → (n k : ℕ) → k + n ≤ 9 → sectionBytes T k n ≡ sectionBytes U k n
+unfolding sectionBytes
+sections-cong T U e zero k h = refl
+sections-cong T U e (suc n) k h = rw (e k (omega arith), sections-cong T U e n (k + 1) (omega arith))
+
+module _ (s t : List ℕ) (x y : Sheet) (e : readSheet s ≡ accepted x) (f : readSheet t ≡ accepted y) (b : Below s) (c : Below t) where
+  section-equal :
+      (k : ℕ)
+      → 0 < k
+      → k < 10
+      → eqb k 3 ≡ false
+      → sectionMeaning s k ≡ sectionMeaning t k
+      → canonicalTables s k ≡ canonicalTables t k
+  section-equal k p h three m =
+      sym (section-of s x e b k p h three) ∙ ap (bytesOf k) m ∙ section-of t y f c k p h three
+
+  tables-equal : meaning s ≡ meaning t → (k : ℕ) → k < 9 → canonicalTables s (k + 1) ≡ canonicalTables t (k + 1)
+  unfolding meaning
+  tables-equal m =
+      each (λ (k : ℕ). canonicalTables s (k + 1) ≡ canonicalTables t (k + 1)) 9 (
+        section-equal 1 (omega arith) (omega arith) refl (ap (λ (z : Meaning). z .buffers) m),
+        (
+          section-equal 2 (omega arith) (omega arith) refl (ap (λ (z : Meaning). z .blases) m),
+          (
+            sym (declared-lists-of s x e b)
+            ∙ ap (λ (z : Meaning). flatten (map (bytesOf 3) (z .declared))) m
+            ∙ declared-lists-of t y f c,
+            (
+              section-equal 4 (omega arith) (omega arith) refl (ap (λ (z : Meaning). z .tlases) m),
+              (
+                section-equal 5 (omega arith) (omega arith) refl (ap (λ (z : Meaning). z .entries) m),
+                (
+                  section-equal 6 (omega arith) (omega arith) refl (ap (λ (z : Meaning). z .geometries) m),
+                  (
+                    section-equal 7 (omega arith) (omega arith) refl (ap (λ (z : Meaning). z .packages) m),
+                    (
+                      section-equal 8 (omega arith) (omega arith) refl (ap (λ (z : Meaning). z .slots) m),
+                      (section-equal 9 (omega arith) (omega arith) refl (ap (λ (z : Meaning). z .actions) m), tt),
+                    ),
+                  ),
+                ),
+              ),
+            ),
+          ),
+        ),
+      )
+
+  header-equal : meaning s ≡ meaning t → (leAt 4 s 1 ≡ leAt 4 t 1) × (leAt 8 s 5 ≡ leAt 8 t 5)
+  unfolding meaning
+  header-equal m =
+      let h = sym (header-of s) ∙ ap (λ (z : Meaning). z .header) m ∙ header-of t in
+      (cc h, cc h)
+
+  same-bytes :
+      leAt 4 s 1 ≡ leAt 4 t 1
+      → leAt 8 s 5 ≡ leAt 8 t 5
+      → ((k : ℕ) → k < 9 → canonicalTables s (k + 1) ≡ canonicalTables t (k + 1))
+      → canonical s ≡ canonical t
+  unfolding canonical sheetBytes
+  same-bytes p q r = rw (p, q) (ap (λ (u : List ℕ). headerBytes (leAt 4 t 1) (leAt 8 t 5) ++ u) (sections-cong (canonicalTables s) (canonicalTables t) r 9 0 (omega arith)))
+
+  -- "two sheets give equal output exactly when they mean the same"
+  pub exactly : (canonical s ≡ canonical t) ↔ (meaning s ≡ meaning t)
+  exactly = (forward, back)
+    where
+      forward : canonical s ≡ canonical t → meaning s ≡ meaning t
+      forward q = sym (output-means s x e b) ∙ ap meaning q ∙ output-means t y f c
+
+      back : meaning s ≡ meaning t → canonical s ≡ canonical t
+      back m = same-bytes (header-equal m .0) (header-equal m .1) (tables-equal m)
+
+-- ---- one of them again
+
+length-read : (s : List ℕ) (x : Sheet) → readSheet s ≡ accepted x → length s ≡ x .actions .start + x .actions .count * size 9
+length-read s x e = rw (accepted-is s x e) (omega (arith, accepted-end s x e, accepted-whole s x e 8 (omega arith), past-more s 8))
+
+module _ (s : List ℕ) (x : Sheet) (e : readSheet s ≡ accepted x) (b : Below s) where
+  pub output-length : length (canonical s) ≡ length s
+  output-length = length-read (canonical s) x (output-read s x e b) ∙ sym (length-read s x e)
+
+  output-again : Below (canonical s) → canonical (canonical s) ≡ canonical s
+  output-again c = exactly (canonical s) s x x (output-read s x e b) e c b .1 (output-means s x e b)
+
+-- ---- calls
+
+-- a call that wrote n bytes of out, and left p
+module _ (s out p : List ℕ) (n : ℕ) (w : WritesSheet s out (written n) p) (b : Below s) where
+  reading-of :
+      (r : Reading) (v : Writing)
+      → written n ≡ afterReading r v
+      → (x : Sheet) × ((r ≡ accepted x) × (written n ≡ v))
+  reading-of (accepted x) v q = (x, (refl, q))
+  reading-of (rejected m at) v q = absurd (never q)
+    where
+      never : written n ≡ unwritten m at → ⊥
+      never q = let z : _≡_ {A = ℕ} 0 1 = cc in omega arith
+
+  fits :
+      (t : Bool) → written n ≡ cond t (unwritten 39 0) (written (length (canonical s))) → (t ≡ false) × (n ≡ length (canonical s))
+  fits false q = (refl, cc)
+  fits true q = absurd (never q)
+    where
+      never : written n ≡ unwritten 39 0 → ⊥
+      never q = let z : _≡_ {A = ℕ} 0 1 = cc in omega arith
+
+  ruled : (x : Sheet) × ((readSheet s ≡ accepted x) × ((length (canonical s) ≤ length out) × (n ≡ length (canonical s))))
+  unfolding writeRule
+  ruled =
+      let r = reading-of (readSheet s) _ (w .answer) in
+      let f = fits (ltb (length out) (length (canonical s))) (r .1 .1) in
+      (r .0, (r .1 .0, (ltb-false (length out) (length (canonical s)) (f .0), f .1)))
+
+  -- what it wrote
+  pub writes-canonical : take n p ≡ canonical s
+  writes-canonical =
+      let l = ruled .1 .1 .0 in
+      let e : p ≡ sets out 0 (canonical s) = w .left ∙ ap (λ (v : Writing). writingLeaves v (canonical s) out) (sym (w .answer)) in
+      rw (e, ruled .1 .1 .1, sets-eq (canonical s) out 0 (rw zero-add l)) (take-at (canonical s) (drop (0 + length (canonical s)) out) (length (canonical s)) refl)
+
+  -- "Reading its output gives the same meaning"
+  pub writes-faithfully : (readSheet (take n p) ≡ readSheet s) × (meaning (take n p) ≡ meaning s)
+  writes-faithfully =
+      rw writes-canonical
+      (output-read s (ruled .0) (ruled .1 .0) b ∙ sym (ruled .1 .0), output-means s (ruled .0) (ruled .1 .0) b)
+
+  -- and what it wrote, written again, is itself
+  pub writes-again : Below p → (out₂ q : List ℕ) (m : ℕ) → WritesSheet (take n p) out₂ (written m) q → take m q ≡ take n p
+  writes-again c out₂ q m v =
+      let d : Below (canonical s) = rw writes-canonical at (below-take n p c) in
+      writes-canonical (take n p) out₂ q m v (below-take n p c)
+      ∙ ap canonical writes-canonical
+      ∙ output-again s (ruled .0) (ruled .1 .0) b d
+      ∙ sym writes-canonical
+
+-- "two sheets give equal output exactly when they mean the same": of any two calls that wrote
+pub writes-exactly :
+    (s out p : List ℕ) (n : ℕ)
+    → WritesSheet s out (written n) p
+    → Below s
+    → (t out₂ q : List ℕ) (m : ℕ)
+    → WritesSheet t out₂ (written m) q
+    → Below t
+    → (take n p ≡ take m q) ↔ (meaning s ≡ meaning t)
+writes-exactly s out p n w b t out₂ q m v c =
+    let x = ruled s out p n w b in
+    let y = ruled t out₂ q m v c in
+    rw (writes-canonical s out p n w b, writes-canonical t out₂ q m v c) (exactly s t (x .0) (y .0) (x .1 .0) (y .1 .0) b c)
