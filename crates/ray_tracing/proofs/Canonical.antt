@@ -384,14 +384,20 @@ module _ (s out p : List ℕ) (n : ℕ) (w : WritesSheet s out (written n) p) (b
       rw writes-canonical
       (output-read s (ruled .0) (ruled .1 .0) b ∙ sym (ruled .1 .0), output-means s (ruled .0) (ruled .1 .0) b)
 
-  -- and what it wrote, written again, is itself
-  pub writes-again : Below p → (out₂ q : List ℕ) (m : ℕ) → WritesSheet (take n p) out₂ (written m) q → take m q ≡ take n p
-  writes-again c out₂ q m v =
-      let d : Below (canonical s) = rw writes-canonical at (below-take n p c) in
-      writes-canonical (take n p) out₂ q m v (below-take n p c)
-      ∙ ap canonical writes-canonical
-      ∙ output-again s (ruled .0) (ruled .1 .0) b d
-      ∙ sym writes-canonical
+-- what a call wrote, written again, is itself
+pub writes-again :
+    (s out p : List ℕ) (n : ℕ)
+    → WritesSheet s out (written n) p
+    → Below s
+    → Below p
+    → (out₂ q : List ℕ) (m : ℕ)
+    → WritesSheet (take n p) out₂ (written m) q
+    → take m q ≡ take n p
+writes-again s out p n w b c out₂ q m v =
+    let x = ruled s out p n w b in
+    let e = writes-canonical s out p n w b in
+    let d : Below (canonical s) = rw e at (below-take n p c) in
+    writes-canonical (take n p) out₂ q m v (below-take n p c) ∙ ap canonical e ∙ output-again s (x .0) (x .1 .0) b d ∙ sym e
 
 -- "two sheets give equal output exactly when they mean the same": of any two calls that wrote
 pub writes-exactly :
