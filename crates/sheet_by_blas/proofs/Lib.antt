@@ -1,0 +1,4 @@
+pub mod Copying
+pub mod Records
+pub mod Counting
+pub mod Placing
