@@ -151,6 +151,19 @@ module _ (t : List ℕ) where
       (drawn-all n (q + size 5) s (at + drawnCount t q * size 6) (omega arith)
       (rw drop-drop at (all-right (Fine geometryFields) xs ys a)))
 
+-- a table made of what g makes of each, w bytes each, and more
+pub cut-at :
+    (w : ℕ) (g : Held → List ℕ) (c : Seen) (xs : List Held) (rest : List ℕ)
+    → All (λ x. x .seen ≡ c) xs
+    → All (λ x. length (g x) ≡ w) xs
+    → recordsFrom c w (flatten (map g xs) ++ rest) (length xs) ≡ map (λ x. record { seen = x .seen; bytes = g x }) xs
+unfolding recordsFrom flatten
+cut-at w g c [] rest s l = refl
+cut-at w g c (x ∷ xs) rest s l =
+    let t = flatten (map g xs) ++ rest in
+    rw (append-assoc, take-at (g x) t w (l .0), drop-at (g x) t w (l .0), cut-at w g c xs rest (s .1) (l .1))
+    (ap (λ (d : Seen). record { seen = d; bytes = g x } ∷ map (λ y. record { seen = y .seen; bytes = g y }) xs) (sym (s .0)))
+
 -- ---- canonical records
 
 module _ (fs : List Field) where
@@ -166,19 +179,17 @@ module _ (fs : List Field) where
   bytes-length (x ∷ xs) a =
       rw (length-append, canonical-length fs (x .seen) (x .bytes) (fine-whole fs x (a .0)), bytes-length xs (a .1), suc-mul) (omega arith)
 
+  whole-bytes : (xs : List Held) → All (Fine fs) xs → All (λ x. length (bytesIn x) ≡ total fs) xs
+  whole-bytes [] a = tt
+  whole-bytes (x ∷ xs) a = (canonical-length fs (x .seen) (x .bytes) (fine-whole fs x (a .0)), whole-bytes xs (a .1))
+
   -- a table made of them, and more
   pub cut :
       (c : Seen) (xs : List Held) (rest : List ℕ)
       → All (λ x. x .seen ≡ c) xs
       → All (Fine fs) xs
       → recordsFrom c (total fs) (flatten (map bytesIn xs) ++ rest) (length xs) ≡ map remade xs
-  unfolding recordsFrom flatten
-  cut c [] rest s a = refl
-  cut c (x ∷ xs) rest s a =
-      let t = flatten (map bytesIn xs) ++ rest in
-      let l = canonical-length fs (x .seen) (x .bytes) (fine-whole fs x (a .0)) in
-      rw (append-assoc, take-at (bytesIn x) t (total fs) l, drop-at (bytesIn x) t (total fs) l, cut c xs rest (s .1) (a .1))
-      (ap (λ (d : Seen). record { seen = d; bytes = bytesIn x } ∷ map remade xs) (sym (s .0)))
+  cut c xs rest s a = cut-at (total fs) bytesIn c xs rest s (whole-bytes xs a)
 
   module _ (alike : (c : Seen) → Alike fs c c) where
     pub remade-fine : (xs : List Held) → All (Fine fs) xs → All (Fine fs) (map remade xs)
