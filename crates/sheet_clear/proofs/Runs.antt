@@ -6,13 +6,13 @@ use mathlib.Core.Bool.{Bool, true, false, not, _&&_, cond}
 use mathlib.Core.Path.{_≡_, refl, sym, ap, _∙_}
 use mathlib.Core.List.{List, [], _∷_, _++_, append-assoc}
 use lib.ListN.{length, take, drop, replicate, length-append, length-drop}
-use lib.Seq.{sets, take-add, take-at, drop-at, length-take-le, drop-drop}
+use lib.Seq.{sets, length-sets, take-add, take-at, drop-at, length-take-le, drop-drop}
 use lib.Dec.{eqb}
 use Rattle.wire.specs.Wire.{leAt}
 use Rattle.wire.proofs.Laws.{le-drop, le-take}
 use Rattle.ray_tracing.specs.Layout.{Seen, Field, layout, total, size}
 use Rattle.ray_tracing.specs.Canonical.{canonicalRecord}
-use Rattle.sheet_clear.specs.Cleared.{recordCleared, restCleared}
+use Rattle.sheet_clear.specs.Cleared.{keptIf, clearedUnless, recordCleared, restCleared}
 use Rattle.sheet_clear.proofs.Writes.{write-same, write-next, length-kept, kept-join}
 
 pub data Runs : Type 0 where
@@ -21,7 +21,7 @@ pub data Runs : Type 0 where
 
 unfoldable pub kept : Runs → List ℕ → List ℕ
 kept end r = []
-kept (run u n x) r = cond u (take n r) (replicate n 0) ++ kept x (drop n r)
+kept (run u n x) r = keptIf u n r ++ kept x (drop n r)
 
 -- the fields that stand from k bytes on in the record at a place
 abbrev pub runsFrom : List Field → Seen → List ℕ → ℕ → ℕ → Runs
@@ -41,7 +41,7 @@ canonical-runs (f ∷ fs) c s at k h =
         le-take (f .width) (f .width + total fs) r 0 (omega arith) ∙ le-drop (f .width) (at + k) s 0 ∙ ap (leAt (f .width) s) (add-zero (at + k)) in
     let d : drop (f .width) r ≡ drop (at + (k + f .width)) s = drop-drop (f .width) (at + k) s ∙ rw add-assoc in
     rw (v, take-add (f .width) (total fs) r, take-at (take (f .width) r) (take (total fs) (drop (f .width) r)) (f .width) l, drop-at (take (f .width) r) (take (total fs) (drop (f .width) r)) (f .width) l, d)
-    (ap (λ (x : List ℕ). cond (f .used c) (take (f .width) r) (replicate (f .width) 0) ++ x) (canonical-runs fs (f .after c (leAt (f .width) s (at + k))) s at (k + f .width) (omega arith)))
+    (ap (λ (x : List ℕ). keptIf (f .used c) (f .width) r ++ x) (canonical-runs fs (f .after c (leAt (f .width) s (at + k))) s at (k + f .width) (omega arith)))
 
 -- runs that are used alike, by their widths, and the others
 pub data Groups : Type 0 where
@@ -77,18 +77,43 @@ unfolding kept
 groups-join end r = refl
 groups-join (group u ns g) r = runs-join u ns (spread g) r ∙ rw (groups-join g (drop (sum ns) r))
 
--- a run made so where it stands, and then the others
-pub run-next :
-    (u : Bool) (x : Runs) (s : List ℕ) (at n p : ℕ) {t : List ℕ}
-    → at + n ≤ length s
-    → at + n ≡ p
-    → t ≡ sets s at (cond u (take n (drop at s)) (replicate n 0))
-    → sets t p (kept x (drop p t)) ≡ sets s at (kept (run u n x) (drop at s))
+-- s with its runs cleared one after the other where they stand, from k bytes past a place on
+abbrev pub Steps : Runs → ℕ → ℕ → List ℕ → List ℕ → Type 0
+Steps end at k s t = t ≡ s
+Steps (run u n x) at k s t = (m : List ℕ) × ((m ≡ clearedUnless u s (at + k) n) × Steps x at (k + n) m t)
+
+abbrev pub bytes : Runs → ℕ
+bytes end = 0
+bytes (run u n x) = n + bytes x
+
+pub steps-kept :
+    (x : Runs) (at k : ℕ) (s : List ℕ) {t : List ℕ}
+    → at + (k + bytes x) ≤ length s
+    → Steps x at k s t
+    → t ≡ sets s (at + k) (kept x (drop (at + k) s))
 unfolding kept
-run-next u x s at n p h e q =
-    let v = cond u (take n (drop at s)) (replicate n 0) in
-    let l : length v ≡ n = length-kept u n (drop at s) (simp length-drop (omega arith)) in
-    write-next (kept x) v s at p (rw l e) q ∙ rw (← e, ← drop-drop n at s)
+steps-kept end at k s h e = e
+steps-kept (run u n x) at k s h (m, (e, r)) =
+    let v = keptIf u n (drop (at + k) s) in
+    let l : length v ≡ n = length-kept u n (drop (at + k) s) (simp length-drop (omega arith)) in
+    let p : at + k + n ≡ at + (k + n) = add-assoc at k n in
+    steps-kept x at (k + n) m (omega (arith, ap length e ∙ length-sets s (at + k) v)) r
+    ∙ write-next (kept x) v s (at + k) (at + (k + n)) (rw l p) e
+    ∙ rw (← p, ← drop-drop n (at + k) s)
+
+-- a record whose first k bytes are always used
+pub record-cleared :
+    (x : Runs) (at k : ℕ) (s : List ℕ) {t : List ℕ}
+    → at + (k + bytes x) ≤ length s
+    → Steps x at k s t
+    → t ≡ sets s at (kept (run true k x) (drop at s))
+unfolding kept
+record-cleared x at k s h r =
+    let v = take k (drop at s) in
+    let l : length v ≡ k = length-kept true k (drop at s) (simp length-drop (omega arith)) in
+    steps-kept x at k s h r
+    ∙ write-next (kept x) v s at (at + k) (rw l refl) (sym (write-same s at k (omega arith)))
+    ∙ rw (← drop-drop k at s)
 
 pub slot-runs :
     (c : Seen) (s : List ℕ) (at : ℕ)

@@ -8,6 +8,7 @@ use mathlib.Core.List.{List, [], _∷_, _++_, map, flatten, append-assoc}
 use lib.ListN.{length, take, drop, set, replicate, length-append, length-take, length-drop, length-replicate, replicate-append-replicate, take-append-drop}
 use lib.Seq.{sets, take-add, drop-set-lt, length-take-le, sets-eq, drop-drop}
 use Rattle.wire.proofs.Laws.{sets-append}
+use Rattle.sheet_clear.specs.Cleared.{keptIf}
 
 -- what stands there, written there again
 pub write-same : (s : List ℕ) (at n : ℕ) → at + n ≤ length s → sets s at (take n (drop at s)) ≡ s
@@ -37,12 +38,10 @@ zeros-next s at i n h =
 
 -- n bytes that are kept if they are used, and made zero if not
 
-pub length-kept : (u : Bool) (n : ℕ) (r : List ℕ) → n ≤ length r → length (cond u (take n r) (replicate n 0)) ≡ n
+pub length-kept : (u : Bool) (n : ℕ) (r : List ℕ) → n ≤ length r → length (keptIf u n r) ≡ n
 length-kept true n r h = length-take-le n r h
 length-kept false n r h = length-replicate n 0
 
-pub kept-join :
-    (u : Bool) (n m : ℕ) (r : List ℕ)
-    → cond u (take n r) (replicate n 0) ++ cond u (take m (drop n r)) (replicate m 0) ≡ cond u (take (n + m) r) (replicate (n + m) 0)
+pub kept-join : (u : Bool) (n m : ℕ) (r : List ℕ) → keptIf u n r ++ keptIf u m (drop n r) ≡ keptIf u (n + m) r
 kept-join true n m r = sym (take-add n m r)
 kept-join false n m r = replicate-append-replicate n m 0

@@ -6,17 +6,17 @@ use sheet_layout::size_of;
 use wire::u8_at;
 use wire::u16_at;
 ghost use mathlib.Core.Path.{_≡_};
-ghost use mathlib.Core.Bool.{Bool, cond, true};
+ghost use mathlib.Core.Bool.{Bool, true};
 ghost use mathlib.Core.List.{map, flatten};
 ghost use Prim.Native.Nat.{ℕ, _+_, _-_, _*_, _/_, _≤_, _<_};
-ghost use lib.ListN.{length, take, drop, replicate};
+ghost use lib.ListN.{length, drop, replicate};
 ghost use lib.Seq.{sets};
 ghost use Rattle.wire.specs.Wire.{leAt};
 ghost use Rattle.ray_tracing.specs.Layout.{Seen, layout, size};
 ghost use Rattle.ray_tracing.specs.Reading.{begin, sumOfCounts};
 ghost use Rattle.ray_tracing.specs.Meaning.{recordsFrom, drawnFrom};
 ghost use Rattle.ray_tracing.specs.Canonical.{canonicalRecord, heldCanonical};
-ghost use Rattle.sheet_clear.specs.Cleared.{hasUnused, restCleared, recordCleared, BlasesInside};
+ghost use Rattle.sheet_clear.specs.Cleared.{clearedUnless, hasUnused, restCleared, recordCleared, BlasesInside};
 
 fn clear(out: &mut [u8], at: usize, n: usize)
     requires { ⌜ at + n ≤ length (now out) ⌝ }
@@ -31,9 +31,7 @@ fn clear(out: &mut [u8], at: usize, n: usize)
 
 fn clear_unless(out: &mut [u8], at: usize, n: usize, used: bool)
     requires { ⌜ at + n ≤ length (now out) ⌝ }
-    ensures { λ _. ⌜
-        now (out .exit) ≡ sets (now (out .entry)) at (cond used (take n (drop at (now (out .entry)))) (replicate n 0))
-        ⌝ }
+    ensures { λ _. ⌜ now (out .exit) ≡ clearedUnless used (now (out .entry)) at n ⌝ }
 {
     if !used {
         clear(out, at, n);

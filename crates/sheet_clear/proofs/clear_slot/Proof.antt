@@ -1,30 +1,30 @@
+-- `sheet_clear::clear_slot` meets its contract: the bytes after the first go by it.
+use mathlib.Core.Bool.{not}
+use mathlib.Core.Path.{refl, sym, ap, _∙_}
+use lib.Dec.{eqb}
+use lib.Seq.{sets}
 use borrow.Author.Needs.{needs}
+use Rattle.sheet_clear.proofs.Runs.{run, end, record-cleared, slot-runs}
 use Rattle.sheet_clear.proofs.clear_slot.Statement.{statement}
 use Rattle.sheet_clear.proofs.clear_slot.Tie as tie
-use Rattle.sheet_clear.proofs.clear_slot.Reads as reads
-use Rattle.sheet_clear.proofs.clear_slot.Lts as lts
-use Rattle.sheet_clear.proofs.clear_unless.Reads as clear-unless-reads
-use Rattle.wire.proofs.u8_at.Reads as u8-at-reads
 
--- src/lib.rt:94:19
 u8-at-requires : tie.Need-u8-at-requires
 u8-at-requires c κs = search needs
 
--- src/lib.rt:95:23
 add-clear-unless : tie.Need-add-clear-unless
 add-clear-unless c = search needs
 
--- src/lib.rt:95:5
 clear-unless-requires : tie.Need-clear-unless-requires
 clear-unless-requires c κs = search needs
 
--- src/lib.rt:90:1
 same-length : tie.Need-same-length
 same-length c = search needs
 
--- src/lib.rt:90:1
 returns : tie.Need-returns
-returns c = search needs
+returns c seen =
+    let a = c .before .before .before .before .before .before .before .args in
+    record-cleared (run (not (eqb (c .before .before .before .before .u8-at .result) 0)) 55 end) (a .at) 1 (a .out .now) (c .before .before .before .before .before .before .before .pre) (_, (c .before .before .clear-unless .ensures, refl))
+    ∙ rw (c .before .before .before .before .u8-at .ensures) (ap (sets (a .out .now) (a .at)) (sym (slot-runs seen (a .out .now) (a .at) (c .before .before .before .before .before .before .before .pre))))
 
 pub clear-slot-spec : {M : Type 1} → statement M
 clear-slot-spec =

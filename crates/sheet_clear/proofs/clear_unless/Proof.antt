@@ -1,25 +1,24 @@
+-- `sheet_clear::clear_unless` meets its contract: bytes that are used are as if they were written where they stand.
+use mathlib.Core.Path.{sym}
 use borrow.Author.Needs.{needs}
+use borrow.Author.Tests.{not-true, not-false}
+use Rattle.sheet_clear.proofs.Writes.{write-same}
 use Rattle.sheet_clear.proofs.clear_unless.Statement.{statement}
 use Rattle.sheet_clear.proofs.clear_unless.Tie as tie
-use Rattle.sheet_clear.proofs.clear_unless.Reads as reads
-use Rattle.sheet_clear.proofs.clear_unless.Lts as lts
-use Rattle.sheet_clear.proofs.clear.Reads as clear-reads
 
--- src/lib.rt:39:9
 clear-requires : tie.Need-clear-requires
 clear-requires c κs = search needs
 
--- src/lib.rt:32:1
 same-length : tie.Need-same-length
 same-length c = search needs
 
--- src/lib.rt:32:1
 returns : tie.Need-returns
-returns c = search needs
+returns c = rw (not-true (c .before .before .before .before .before .before .args .used) (c .before .before .before .before .if1 .taken)) (c .before .before .clear .ensures)
 
--- src/lib.rt:32:1
 returns-2 : tie.Need-returns-2
-returns-2 c = search needs
+returns-2 c =
+    let a = c .before .before .args in
+    rw (not-false (a .used) (c .if1 .left)) (sym (write-same (a .out .now) (a .at) (a .n) (c .before .before .pre)))
 
 pub clear-unless-spec : {M : Type 1} → statement M
 clear-unless-spec = tie.close (tie.spec clear-requires same-length returns returns-2)
