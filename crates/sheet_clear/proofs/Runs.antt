@@ -10,9 +10,9 @@ use lib.Seq.{sets, length-sets, take-add, take-at, drop-at, length-take-le, drop
 use lib.Dec.{eqb}
 use Rattle.wire.specs.Wire.{leAt}
 use Rattle.wire.proofs.Laws.{le-drop, le-take}
-use Rattle.ray_tracing.specs.Layout.{Seen, Field, layout, total, size}
+use Rattle.ray_tracing.specs.Layout.{Seen, Field, kindKnown, layout, total, size}
 use Rattle.ray_tracing.specs.Canonical.{canonicalRecord}
-use Rattle.sheet_clear.specs.Cleared.{keptIf, clearedUnless, recordCleared, restCleared}
+use Rattle.sheet_clear.specs.Cleared.{keptIf, clearedUnless, recordCleared}
 use Rattle.sheet_clear.proofs.Writes.{write-same, write-next, length-kept, kept-join}
 
 pub data Runs : Type 0 where
@@ -128,6 +128,22 @@ pub action-runs :
     → at + size 9 ≤ length s
     → recordCleared 9 c s at ≡ kept (run true 1 (run (not (eqb (leAt 1 s at) 1)) 2 end)) (drop at s)
 action-runs c s at h = rw add-zero at (canonical-runs (layout 9 .fields) c s at 0 h)
+
+pub declared-runs :
+    (c : Seen) (s : List ℕ) (at : ℕ)
+    → at + size 3 ≤ length s
+    → let triangles = not (kindKnown c (leAt 2 s at) .boxes) in
+      recordCleared 3 c s at
+      ≡ kept (run true 7 (run triangles 7 (run (triangles && not (eqb (leAt 1 s (at + 13)) 0)) 4 end))) (drop at s)
+declared-runs c s at h =
+    let triangles = not (kindKnown c (leAt 2 s at) .boxes) in
+    rw add-zero at (canonical-runs (layout 3 .fields) c s at 0 h)
+    ∙ groups-join
+    (group true (2 ∷ 1 ∷ 4 ∷ [])
+    (group triangles (1 ∷ 2 ∷ 2 ∷ 1 ∷ 1 ∷ [])
+    (group (triangles && not (eqb (leAt 1 s (at + 13)) 0)) (4 ∷ [])
+    end)))
+    (drop at s)
 
 pub geometry-runs :
     (c : Seen) (s : List ℕ) (at : ℕ)

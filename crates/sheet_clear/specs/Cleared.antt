@@ -1,5 +1,5 @@
 -- A record made canonical where it stands in a list of bytes. Assumes nothing.
-use Prim.Native.Nat.{ℕ, _+_, _-_, _*_, _/_, _<_}
+use Prim.Native.Nat.{ℕ, _+_, _*_, _/_, _<_}
 use mathlib.Core.Bool.{Bool, _||_, cond}
 use mathlib.Core.Path.{_≡_}
 use mathlib.Core.List.{List}
@@ -24,10 +24,6 @@ clearedUnless used s at n = sets s at (keptIf used n (drop at s))
 
 abbrev pub recordCleared : ℕ → Seen → List ℕ → ℕ → List ℕ
 recordCleared k c s at = canonicalRecord (layout k .fields) c (take (size k) (drop at s))
-
--- of a declared geometry the fields after its Blas
-abbrev pub restCleared : Seen → List ℕ → ℕ → List ℕ
-restCleared c s at = canonicalRecord (drop 1 (layout 3 .fields)) c (take (size 3 - 2) (drop (at + 2) s))
 
 -- the Blases of n declared geometries from a place on are inside their table
 abbrev pub BlasesInside : ℕ → List ℕ → List ℕ → ℕ → ℕ → Type 0

@@ -12,11 +12,11 @@ ghost use Prim.Native.Nat.{ℕ, _+_, _-_, _*_, _/_, _≤_, _<_};
 ghost use lib.ListN.{length, drop, replicate};
 ghost use lib.Seq.{sets};
 ghost use Rattle.wire.specs.Wire.{leAt};
-ghost use Rattle.ray_tracing.specs.Layout.{Seen, layout, size};
+ghost use Rattle.ray_tracing.specs.Layout.{Seen, kindKnown, layout, size};
 ghost use Rattle.ray_tracing.specs.Reading.{begin, sumOfCounts};
 ghost use Rattle.ray_tracing.specs.Meaning.{recordsFrom, drawnFrom};
 ghost use Rattle.ray_tracing.specs.Canonical.{canonicalRecord, heldCanonical};
-ghost use Rattle.sheet_clear.specs.Cleared.{clearedUnless, hasUnused, restCleared, recordCleared, BlasesInside};
+ghost use Rattle.sheet_clear.specs.Cleared.{clearedUnless, hasUnused, recordCleared, BlasesInside};
 
 fn clear(out: &mut [u8], at: usize, n: usize)
     requires { ⌜ at + n ≤ length (now out) ⌝ }
@@ -38,11 +38,12 @@ fn clear_unless(out: &mut [u8], at: usize, n: usize, used: bool)
     }
 }
 
-// The fields of a declared geometry after its Blas, whose kind is known then.
-fn clear_declared_rest(out: &mut [u8], at: usize, boxes: bool)
+// A declared geometry whose Blas's kind is known.
+fn clear_declared_of(out: &mut [u8], at: usize, boxes: bool)
     requires { ⌜ at + size 3 ≤ length (now out) ⌝ }
     ensures { λ _. ⌜
-        ((c : Seen) → c .boxes ≡ boxes → now (out .exit) ≡ sets (now (out .entry)) (at + 2) (restCleared c (now (out .entry)) at))
+        ((c : Seen) → kindKnown c (leAt 2 (now (out .entry)) at) .boxes ≡ boxes →
+        now (out .exit) ≡ sets (now (out .entry)) at (recordCleared 3 c (now (out .entry)) at))
         ⌝ }
 {
     let triangles = !boxes;
@@ -61,7 +62,7 @@ fn clear_declared(out: &mut [u8], at: usize, blases: &[u8])
         ⌝ }
 {
     let blas = u16_at(out, at) as usize;
-    clear_declared_rest(out, at, blases[blas * BLAS_SIZE] == 1);
+    clear_declared_of(out, at, blases[blas * BLAS_SIZE] == 1);
 }
 
 fn clear_geometry(out: &mut [u8], at: usize, boxes: bool)
