@@ -72,28 +72,28 @@ clear-unless-requires-3 : tie.Need-clear-unless-requires-3
 clear-unless-requires-3 c κs = search needs
 
 add-clear-unless-4 : tie.Need-add-clear-unless-4
-add-clear-unless-4 c = search needs
+add-clear-unless-4 c = omega (arith, c .before .before .before .before .before .before .before .before .before .before .before .before .before .before .before .before .before .before .before .before .before .before .before .before .before .before .before .before .before .pre, c .before .before .before .before .before .before .before .before .before .before .before .before .before .before .before .before .before .before .before .before .before .before .before .before .before .before .before .before .before .good .0)
 
 clear-unless-requires-4 : tie.Need-clear-unless-requires-4
-clear-unless-requires-4 c κs = search needs
+clear-unless-requires-4 c κs = omega (arith, c .before .before .before .before .before .before .before .before .before .before .before .before .before .before .before .before .before .before .before .before .before .before .before .before .before .before .before .before .before .pre)
 
 add-clear-unless-5 : tie.Need-add-clear-unless-5
-add-clear-unless-5 c = search needs
+add-clear-unless-5 c = omega (arith, c .before .before .before .before .before .before .before .before .before .before .before .before .before .before .before .before .before .before .before .before .before .before .before .before .before .before .before .before .before .before .before .before .before .pre, c .before .before .before .before .before .before .before .before .before .before .before .before .before .before .before .before .before .before .before .before .before .before .before .before .before .before .before .before .before .before .before .before .before .good .0)
 
 clear-unless-requires-5 : tie.Need-clear-unless-requires-5
-clear-unless-requires-5 c κs = search needs
+clear-unless-requires-5 c κs = omega (arith, c .before .before .before .before .before .before .before .before .before .before .before .before .before .before .before .before .before .before .before .before .before .before .before .before .before .before .before .before .before .before .before .before .before .pre)
 
 add-clear-unless-6 : tie.Need-add-clear-unless-6
-add-clear-unless-6 c = search needs
+add-clear-unless-6 c = omega (arith, c .before .before .before .before .before .before .before .before .before .before .before .before .before .before .before .before .before .before .before .before .before .before .before .before .before .before .before .before .before .before .before .before .before .before .before .before .before .pre, c .before .before .before .before .before .before .before .before .before .before .before .before .before .before .before .before .before .before .before .before .before .before .before .before .before .before .before .before .before .before .before .before .before .before .before .before .before .good .0)
 
 clear-unless-requires-6 : tie.Need-clear-unless-requires-6
-clear-unless-requires-6 c κs = search needs
+clear-unless-requires-6 c κs = omega (arith, c .before .before .before .before .before .before .before .before .before .before .before .before .before .before .before .before .before .before .before .before .before .before .before .before .before .before .before .before .before .before .before .before .before .before .before .before .before .pre)
 
 add-clear-unless-7 : tie.Need-add-clear-unless-7
-add-clear-unless-7 c = search needs
+add-clear-unless-7 c = omega (arith, c .before .before .before .before .before .before .before .before .before .before .before .before .before .before .before .before .before .before .before .before .before .before .before .before .before .before .before .before .before .before .before .before .before .before .before .before .before .before .before .before .before .pre, c .before .before .before .before .before .before .before .before .before .before .before .before .before .before .before .before .before .before .before .before .before .before .before .before .before .before .before .before .before .before .before .before .before .before .before .before .before .before .before .before .before .good .0)
 
 clear-unless-requires-7 : tie.Need-clear-unless-requires-7
-clear-unless-requires-7 c κs = search needs
+clear-unless-requires-7 c κs = omega (arith, c .before .before .before .before .before .before .before .before .before .before .before .before .before .before .before .before .before .before .before .before .before .before .before .before .before .before .before .before .before .before .before .before .before .before .before .before .before .before .before .before .before .pre)
 
 same-length : tie.Need-same-length
 same-length c = search needs
