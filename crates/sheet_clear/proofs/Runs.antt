@@ -38,7 +38,7 @@ canonical-runs (f ∷ fs) c s at k h =
     let r = drop (at + k) s in
     let l : length (take (f .width) r) ≡ f .width = length-take-le (f .width) r (simp length-drop (omega arith)) in
     let v : leAt (f .width) (take (f .width + total fs) r) 0 ≡ leAt (f .width) s (at + k) =
-        le-take (f .width) (f .width + total fs) r 0 (omega arith) ∙ le-drop (f .width) (at + k) s 0 ∙ ap (leAt (f .width) s) (add-zero (at + k)) in
+    le-take (f .width) (f .width + total fs) r 0 (omega arith) ∙ le-drop (f .width) (at + k) s 0 ∙ ap (leAt (f .width) s) (add-zero (at + k)) in
     let d : drop (f .width) r ≡ drop (at + (k + f .width)) s = drop-drop (f .width) (at + k) s ∙ rw add-assoc in
     rw (v, take-add (f .width) (total fs) r, take-at (take (f .width) r) (take (total fs) (drop (f .width) r)) (f .width) l, drop-at (take (f .width) r) (take (total fs) (drop (f .width) r)) (f .width) l, d)
     (ap (λ (x : List ℕ). keptIf (f .used c) (f .width) r ++ x) (canonical-runs fs (f .after c (leAt (f .width) s (at + k))) s at (k + f .width) (omega arith)))
@@ -133,8 +133,8 @@ pub declared-runs :
     (c : Seen) (s : List ℕ) (at : ℕ)
     → at + size 3 ≤ length s
     → let triangles = not (kindKnown c (leAt 2 s at) .boxes) in
-      recordCleared 3 c s at
-      ≡ kept (run true 7 (run triangles 7 (run (triangles && not (eqb (leAt 1 s (at + 13)) 0)) 4 end))) (drop at s)
+    recordCleared 3 c s at
+    ≡ kept (run true 7 (run triangles 7 (run (triangles && not (eqb (leAt 1 s (at + 13)) 0)) 4 end))) (drop at s)
 declared-runs c s at h =
     let triangles = not (kindKnown c (leAt 2 s at) .boxes) in
     rw add-zero at (canonical-runs (layout 3 .fields) c s at 0 h)
@@ -149,20 +149,20 @@ pub geometry-runs :
     (c : Seen) (s : List ℕ) (at : ℕ)
     → at + size 6 ≤ length s
     → let triangles = not (c .boxes) in
-      let indexed = triangles && not (eqb (leAt 2 s (at + 21)) 65535) in
-      let transformed = triangles && not (eqb (leAt 2 s (at + 33)) 65535) in
-      recordCleared 6 c s at
-      ≡ kept
-      (run true 19
-      (run triangles 5
-      (run (triangles && not (eqb (leAt 1 s (at + 23)) 0)) 4
-      (run indexed 1
-      (run (indexed && not (eqb (leAt 1 s (at + 28)) 0)) 4
-      (run triangles 2
-      (run transformed 1
-      (run (transformed && not (eqb (leAt 1 s (at + 35)) 0)) 8
-      end))))))))
-      (drop at s)
+    let indexed = triangles && not (eqb (leAt 2 s (at + 21)) 65535) in
+    let transformed = triangles && not (eqb (leAt 2 s (at + 33)) 65535) in
+    recordCleared 6 c s at
+    ≡ kept
+    (run true 19
+    (run triangles 5
+    (run (triangles && not (eqb (leAt 1 s (at + 23)) 0)) 4
+    (run indexed 1
+    (run (indexed && not (eqb (leAt 1 s (at + 28)) 0)) 4
+    (run triangles 2
+    (run transformed 1
+    (run (transformed && not (eqb (leAt 1 s (at + 35)) 0)) 8
+    end))))))))
+    (drop at s)
 geometry-runs c s at h =
     let triangles = not (c .boxes) in
     let indexed = triangles && not (eqb (leAt 2 s (at + 21)) 65535) in
