@@ -1,9 +1,10 @@
 -- A record made canonical where it stands in a list of bytes. Assumes nothing.
 use Prim.Native.Nat.{ℕ, _+_, _*_, _/_, _<_}
-use mathlib.Core.Bool.{Bool, _||_}
+use mathlib.Core.Bool.{Bool, _||_, cond}
 use mathlib.Core.Path.{_≡_}
 use mathlib.Core.List.{List}
-use lib.ListN.{length, take, drop}
+use lib.ListN.{length, take, drop, replicate}
+use lib.Seq.{sets}
 use lib.Dec.{eqb}
 use Rattle.wire.specs.Wire.{leAt}
 use Rattle.ray_tracing.specs.Layout.{Seen, layout, size}
@@ -13,12 +14,16 @@ use Rattle.ray_tracing.specs.Canonical.{canonicalRecord}
 abbrev pub hasUnused : ℕ → Bool
 hasUnused k = eqb k 3 || (eqb k 6 || (eqb k 8 || eqb k 9))
 
+-- n bytes, kept if they are used, and made zero if not
+abbrev pub keptIf : Bool → ℕ → List ℕ → List ℕ
+keptIf used n r = cond used (take n r) (replicate n 0)
+
+-- the n bytes at a place
+abbrev pub clearedUnless : Bool → List ℕ → ℕ → ℕ → List ℕ
+clearedUnless used s at n = sets s at (keptIf used n (drop at s))
+
 abbrev pub recordCleared : ℕ → Seen → List ℕ → ℕ → List ℕ
 recordCleared k c s at = canonicalRecord (layout k .fields) c (take (size k) (drop at s))
-
--- of a declared geometry the fields after its Blas
-abbrev pub restCleared : Seen → List ℕ → ℕ → List ℕ
-restCleared c s at = canonicalRecord (drop 1 (layout 3 .fields)) c (take (size 3) (drop (at + 2) s))
 
 -- the Blases of n declared geometries from a place on are inside their table
 abbrev pub BlasesInside : ℕ → List ℕ → List ℕ → ℕ → ℕ → Type 0

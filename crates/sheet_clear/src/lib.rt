@@ -6,17 +6,17 @@ use sheet_layout::size_of;
 use wire::u8_at;
 use wire::u16_at;
 ghost use mathlib.Core.Path.{_≡_};
-ghost use mathlib.Core.Bool.{Bool, cond, true};
+ghost use mathlib.Core.Bool.{Bool, true};
 ghost use mathlib.Core.List.{map, flatten};
 ghost use Prim.Native.Nat.{ℕ, _+_, _-_, _*_, _/_, _≤_, _<_};
-ghost use lib.ListN.{length, take, drop, replicate};
+ghost use lib.ListN.{length, drop, replicate};
 ghost use lib.Seq.{sets};
 ghost use Rattle.wire.specs.Wire.{leAt};
-ghost use Rattle.ray_tracing.specs.Layout.{Seen, layout, size};
+ghost use Rattle.ray_tracing.specs.Layout.{Seen, kindKnown, layout, size};
 ghost use Rattle.ray_tracing.specs.Reading.{begin, sumOfCounts};
 ghost use Rattle.ray_tracing.specs.Meaning.{recordsFrom, drawnFrom};
 ghost use Rattle.ray_tracing.specs.Canonical.{canonicalRecord, heldCanonical};
-ghost use Rattle.sheet_clear.specs.Cleared.{hasUnused, restCleared, recordCleared, BlasesInside};
+ghost use Rattle.sheet_clear.specs.Cleared.{clearedUnless, hasUnused, recordCleared, BlasesInside};
 
 fn clear(out: &mut [u8], at: usize, n: usize)
     requires { ⌜ at + n ≤ length (now out) ⌝ }
@@ -31,20 +31,19 @@ fn clear(out: &mut [u8], at: usize, n: usize)
 
 fn clear_unless(out: &mut [u8], at: usize, n: usize, used: bool)
     requires { ⌜ at + n ≤ length (now out) ⌝ }
-    ensures { λ _. ⌜
-        now (out .exit) ≡ sets (now (out .entry)) at (cond used (take n (drop at (now (out .entry)))) (replicate n 0))
-        ⌝ }
+    ensures { λ _. ⌜ now (out .exit) ≡ clearedUnless used (now (out .entry)) at n ⌝ }
 {
     if !used {
         clear(out, at, n);
     }
 }
 
-// The fields of a declared geometry after its Blas, whose kind is known then.
-fn clear_declared_rest(out: &mut [u8], at: usize, boxes: bool)
+// A declared geometry whose Blas's kind is known.
+fn clear_declared_of(out: &mut [u8], at: usize, boxes: bool)
     requires { ⌜ at + size 3 ≤ length (now out) ⌝ }
     ensures { λ _. ⌜
-        ((c : Seen) → c .boxes ≡ boxes → now (out .exit) ≡ sets (now (out .entry)) (at + 2) (restCleared c (now (out .entry)) at))
+        ((c : Seen) → kindKnown c (leAt 2 (now (out .entry)) at) .boxes ≡ boxes →
+        now (out .exit) ≡ sets (now (out .entry)) at (recordCleared 3 c (now (out .entry)) at))
         ⌝ }
 {
     let triangles = !boxes;
@@ -63,7 +62,7 @@ fn clear_declared(out: &mut [u8], at: usize, blases: &[u8])
         ⌝ }
 {
     let blas = u16_at(out, at) as usize;
-    clear_declared_rest(out, at, blases[blas * BLAS_SIZE] == 1);
+    clear_declared_of(out, at, blases[blas * BLAS_SIZE] == 1);
 }
 
 fn clear_geometry(out: &mut [u8], at: usize, boxes: bool)
