@@ -22,7 +22,7 @@ use Rattle.ray_tracing.proofs.Instances.{Below}
 use Rattle.ray_tracing.proofs.Reading.{or-fine}
 use Rattle.ray_tracing.proofs.Sheets.{Lent, lent-tells, lent-of, field-allowed}
 use Rattle.ray_tracing.proofs.Zeroed.{Alike, layouts-alike, recordOf, of-meaning}
-use Rattle.ray_tracing.proofs.Held.{All, all-append, all-by, Fine, fine-whole, records-each, records-all, records-count, records-seen, drawn-each, drawn-all, bytesIn, remade, bytes-length, cut, cut-drawn, remade-fine, remade-means, flatten-append}
+use Rattle.ray_tracing.proofs.Held.{All, all-append, all-by, Fine, fine-whole, records-each, records-all, records-count, records-seen, drawn-each, drawn-all, bytesIn, remade, bytes-length, cut, cut-drawn, remade-fine, remade-means}
 use Rattle.ray_tracing.proofs.ByBlas.{blasOf, ordered-length}
 
 -- what is known of the table s of section k, after the table t

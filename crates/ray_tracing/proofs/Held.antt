@@ -55,10 +55,11 @@ module _ (P : Held → Type 0) where
   all-by xs a b zero = tt
   all-by xs a b (suc n) = all-append (ofBlas b xs) (flatten (byBlas xs (b + 1) n)) (all-of b xs a) (all-by xs a (b + 1) n)
 
-pub flatten-append : {A : Type 0} (xs ys : List (List A)) → flatten (xs ++ ys) ≡ flatten xs ++ flatten ys
+pub flatten-map :
+    {A B : Type 0} (f : A → List B) (xs ys : List A) → flatten (map f (xs ++ ys)) ≡ flatten (map f xs) ++ flatten (map f ys)
 unfolding flatten
-flatten-append [] ys = refl
-flatten-append (x ∷ xs) ys = rw (flatten-append xs ys, append-assoc)
+flatten-map f [] ys = refl
+flatten-map f (x ∷ xs) ys = rw (flatten-map f xs ys, append-assoc)
 
 -- ---- judged one by one
 
@@ -220,7 +221,7 @@ cut-drawn t (suc n) q s rest a =
     let a₁ = all-left (Fine geometryFields) xs ys a in
     let m : length xs ≡ drawnCount t q = records-count geometryFields c (drawnCount t q) s in
     let e : f (xs ++ ys) ++ rest ≡ f xs ++ (f ys ++ rest) =
-        rw (map-append (bytesIn geometryFields) xs ys, flatten-append (map (bytesIn geometryFields) xs) (map (bytesIn geometryFields) ys)) (append-assoc (f xs) (f ys) rest) in
+        rw (flatten-map (bytesIn geometryFields) xs ys) (append-assoc (f xs) (f ys) rest) in
     let l : length (f xs) ≡ drawnCount t q * size 6 = bytes-length geometryFields xs a₁ ∙ ap (λ (k : ℕ). k * size 6) m in
     let r : recordsFrom c (size 6) (f xs ++ (f ys ++ rest)) (drawnCount t q) ≡ map (remade geometryFields) xs =
         subst (λ (k : ℕ). recordsFrom c (size 6) (f xs ++ (f ys ++ rest)) k ≡ map (remade geometryFields) xs) m

@@ -5,7 +5,7 @@ use native.Mathlib.Decide.{decLt}
 use native.Mathlib.Omega.{arith}
 use mathlib.Core.Bool.{Bool, true, false, _||_, cond, true≢false}
 use mathlib.Core.Path.{_≡_, refl, sym, ap, _∙_}
-use mathlib.Core.List.{List, [], _∷_, _++_, map, flatten, append-assoc, map-append}
+use mathlib.Core.List.{List, [], _∷_, _++_, map, flatten}
 use mathlib.Core.Option.{Option}
 use lib.Dec.{eqb}
 use lib.ListN.{length, getD, take, drop, length-take, List·getD-eq-default}
@@ -20,7 +20,7 @@ use Rattle.ray_tracing.proofs.Each.{each}
 use Rattle.ray_tracing.proofs.Instances.{Below}
 use Rattle.ray_tracing.proofs.Sheets.{lent-tells}
 use Rattle.ray_tracing.proofs.Zeroed.{layouts-alike, zeroed-length, recordOf, of-meaning}
-use Rattle.ray_tracing.proofs.Held.{All, all-append, all-of, Fine, fine-whole, bytesIn, remade, remade-means, flatten-append}
+use Rattle.ray_tracing.proofs.Held.{All, all-append, all-of, Fine, fine-whole, bytesIn, remade, remade-means, flatten-map}
 use Rattle.ray_tracing.proofs.ByBlas.{blasOf, by-ordered, by-map}
 use Rattle.ray_tracing.proofs.CanonicalTable.{Made}
 
@@ -213,9 +213,8 @@ lists-of xs a c (suc n) b =
     rw (
       list-of 3 (ofBlas b xs) (all-of (Fine declaredFields) b xs a) (all-of BytesBelow b xs c),
       lists-of xs a c n (b + 1),
-      map-append (bytesIn declaredFields) (ofBlas b xs) (flatten (byBlas xs (b + 1) n)),
     )
-    (sym (flatten-append (map (bytesIn declaredFields) (ofBlas b xs)) (map (bytesIn declaredFields) (flatten (byBlas xs (b + 1) n)))))
+    (sym (flatten-map (bytesIn declaredFields) (ofBlas b xs) (flatten (byBlas xs (b + 1) n))))
 
 pub declared-of :
     (t s : List ℕ)

@@ -12,26 +12,17 @@ use Rattle.wire.proofs.Laws.{le-past}
 use Rattle.ray_tracing.specs.Layout.{Seen, Field, layout, total, size}
 use Rattle.ray_tracing.specs.Reading.{begin, ofBoxes, drawnCount, sumOfCounts}
 use Rattle.ray_tracing.proofs.Reading.{sum-more}
+use Rattle.ray_tracing.proofs.Zeroed.{canonical-length}
+use Rattle.ray_tracing.proofs.Held.{flatten-map}
 use Rattle.ray_tracing.specs.Meaning.{Held, recordsFrom, drawnFrom}
 use Rattle.ray_tracing.specs.Canonical.{canonicalRecord, heldCanonical}
 use Rattle.sheet_clear.specs.Cleared.{recordCleared, BlasesInside}
 use Rattle.sheet_clear.proofs.Writes.{write-next, length-kept}
 
--- a canonical record is as long as its fields
-pub length-canonical : (fs : List Field) (c : Seen) (r : List ℕ) → total fs ≤ length r → length (canonicalRecord fs c r) ≡ total fs
-unfolding canonicalRecord
-length-canonical [] c r h = refl
-length-canonical (f ∷ fs) c r h =
-    rw (
-      length-append,
-      length-kept (f .used c) (f .width) r (omega arith),
-      length-canonical fs (f .after c (leAt (f .width) r 0)) (drop (f .width) r) (simp length-drop (omega arith)),
-    )
-
 pub length-cleared : (k : ℕ) (c : Seen) (s : List ℕ) (at : ℕ) → at + size k ≤ length s → length (recordCleared k c s at) ≡ size k
 length-cleared k c s at h =
     let l : length (take (size k) (drop at s)) ≡ size k = length-take-le (size k) (drop at s) (simp length-drop (omega arith)) in
-    length-canonical (layout k .fields) c (take (size k) (drop at s)) (omega arith)
+    canonical-length (layout k .fields) c (take (size k) (drop at s)) (omega arith)
 
 -- n records from a place on
 abbrev pub recordsCleared : ℕ → Seen → List ℕ → ℕ → ℕ → List ℕ
@@ -72,13 +63,8 @@ length-records k c zero r h = sym (zero-mul (size k))
 length-records k c (suc n) r h =
     let m = suc-mul n (size k) in
     let l : length (take (size k) r) ≡ size k = length-take-le (size k) r (omega arith) in
-    rw (length-append, length-canonical (layout k .fields) c (take (size k) r) (omega arith), length-records k c n (drop (size k) r) (simp length-drop (omega arith)))
+    rw (length-append, canonical-length (layout k .fields) c (take (size k) r) (omega arith), length-records k c n (drop (size k) r) (simp length-drop (omega arith)))
     (omega arith)
-
-flatten-append : {A : Type 0} (f : A → List ℕ) (a b : List A) → flatten (map f (a ++ b)) ≡ flatten (map f a) ++ flatten (map f b)
-unfolding flatten
-flatten-append f [] b = refl
-flatten-append f (x ∷ a) b = rw (flatten-append f a b, append-assoc)
 
 -- the records that n entries draw, from a place on
 abbrev pub drawnCleared : List ℕ → ℕ → List ℕ → ℕ → ℕ → List ℕ
@@ -97,7 +83,7 @@ drawn-next t q s at (suc n) h p e =
     let seen = begin (size 5) t (ofBoxes t q) in
     let m = drawnCount t q in
     let l : length (recordsCleared 6 seen s at m) ≡ m * size 6 = length-records 6 seen m (drop at s) (simp length-drop (omega arith)) in
-    rw (sub-one (suc n), flatten-append (heldCanonical 6) (recordsFrom seen (size 6) (drop at s) m) (drawnFrom t (q + size 5) (drop (m * size 6) (drop at s)) n))
+    rw (sub-one (suc n), flatten-map (heldCanonical 6) (recordsFrom seen (size 6) (drop at s) m) (drawnFrom t (q + size 5) (drop (m * size 6) (drop at s)) n))
     (write-next (λ r. flatten (map (heldCanonical 6) (drawnFrom t (q + size 5) r n))) (recordsCleared 6 seen s at m) s at (at + m * size 6) (rw l refl) e
     ∙ rw (← drop-drop (m * size 6) at s))
 
