@@ -284,8 +284,8 @@ module _ (s t : List ℕ) (x y : Sheet) (e : readSheet s ≡ accepted x) (f : re
           section-equal 2 (omega arith) (omega arith) refl (ap (λ (z : Meaning). z .blases) m),
           (
             sym (declared-lists-of s x e b)
-            ∙ ap (λ (z : Meaning). flatten (map (bytesOf 3) (z .declared))) m
-            ∙ declared-lists-of t y f c,
+                ∙ ap (λ (z : Meaning). flatten (map (bytesOf 3) (z .declared))) m
+                ∙ declared-lists-of t y f c,
             (
               section-equal 4 (omega arith) (omega arith) refl (ap (λ (z : Meaning). z .tlases) m),
               (

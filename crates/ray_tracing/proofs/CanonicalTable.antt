@@ -63,41 +63,41 @@ module _ (k : ℕ) (h : k < 10) (six : eqb k 6 ≡ false) (t s : List ℕ) (f : 
       (each-fine : All (Fine fs) ys)
       (many : length ys ≡ n)
     where
-    abbrev table′ : List ℕ
-    table′ = flatten (map (bytesIn fs) ys)
+      abbrev table′ : List ℕ
+      table′ = flatten (map (bytesIn fs) ys)
 
-    as-long : length table′ ≡ length s
-    as-long = bytes-length fs ys each-fine ∙ ap (λ (m : ℕ). m * size k) many ∙ count-size
+      as-long : length table′ ≡ length s
+      as-long = bytes-length fs ys each-fine ∙ ap (λ (m : ℕ). m * size k) many ∙ count-size
 
-    records-are : recordsFrom c (size k) table′ (length table′ / size k) ≡ map (remade fs) ys
-    records-are =
-        rw (as-long, ← many)
-        (subst (λ (u : List ℕ). recordsFrom c (size k) u (length ys) ≡ map (remade fs) ys) (append-nil table′)
-        (cut fs c ys [] seen each-fine))
+      records-are : recordsFrom c (size k) table′ (length table′ / size k) ≡ map (remade fs) ys
+      records-are =
+          rw (as-long, ← many)
+          (subst (λ (u : List ℕ). recordsFrom c (size k) u (length ys) ≡ map (remade fs) ys) (append-nil table′)
+          (cut fs c ys [] seen each-fine))
 
-    lent-again : judgeLent k (layout k) (size (k - 1)) t table′ ≡ fine
-    lent-again =
-        lent-of k (layout k) (size (k - 1)) t table′
-        (record {
-          few = rw as-long (lent .few);
-          sum = rw as-long (lent .sum);
-          records =
-              rw six
-              (records-all fs c (length table′ / size k) table′ 0 (rw as-long (omega (arith, count-size)))
-              (rw records-are (remade-fine fs (layouts-alike k h) ys each-fine)));
-          whole = rw as-long (lent .whole);
-        })
+      lent-again : judgeLent k (layout k) (size (k - 1)) t table′ ≡ fine
+      lent-again =
+          lent-of k (layout k) (size (k - 1)) t table′
+          (record {
+            few = rw as-long (lent .few);
+            sum = rw as-long (lent .sum);
+            records =
+                rw six
+                (records-all fs c (length table′ / size k) table′ 0 (rw as-long (omega (arith, count-size)))
+                (rw records-are (remade-fine fs (layouts-alike k h) ys each-fine)));
+            whole = rw as-long (lent .whole);
+          })
 
-    made-of : inOrder k t s ≡ ys → Made k t s
-    unfolding canonicalTable
-    made-of e =
-        record {
-          held = rw six held-each;
-          listed = rw e each-fine;
-          length′ = rw e as-long;
-          records′ = rw (e, six) records-are;
-          fine′ = rw e lent-again;
-        }
+      made-of : inOrder k t s ≡ ys → Made k t s
+      unfolding canonicalTable
+      made-of e =
+          record {
+            held = rw six held-each;
+            listed = rw e each-fine;
+            length′ = rw e as-long;
+            records′ = rw (e, six) records-are;
+            fine′ = rw e lent-again;
+          }
 
   -- in their old order
   pub made-as-read : eqb k 3 ≡ false → Made k t s
@@ -106,7 +106,7 @@ module _ (k : ℕ) (h : k < 10) (six : eqb k 6 ≡ false) (t s : List ℕ) (f : 
 
 -- ---- declared geometries, by Blas
 
-all-and :
+pub all-and :
     (P Q R : Held → Type 0)
     → ((x : Held) → P x → Q x → R x)
     → (xs : List Held)
@@ -172,7 +172,7 @@ module _ (t s : List ℕ) (f : judgeLent 6 (layout 6) (size 5) t s ≡ fine) whe
   abbrev drawn′ : List ℕ
   drawn′ = flatten (map (bytesIn (layout 6 .fields)) drawn)
 
-  all-drawn : sumOfCounts t (size 5) 3 entries * size 6 ≡ length s
+  pub all-drawn : sumOfCounts t (size 5) 3 entries * size 6 ≡ length s
   all-drawn =
       let e = eqb-true (sumOfCounts t (size 5) 3 entries) (length s / size 6) (lent-6 .sum) in
       rw e (omega (arith, lent-6 .whole, div-add-mod' (length s) (size 6)))

@@ -9,7 +9,7 @@ use mathlib.Core.Path.{_≡_, refl, sym, ap, _∙_, subst}
 use mathlib.Core.List.{List, [], _∷_, _++_, map, flatten, append-assoc, append-nil, map-append}
 use lib.Dec.{eqb}
 use lib.ListN.{length, take, drop, length-append, length-drop, length-map}
-use lib.Seq.{length-take-le, take-at, drop-at, drop-drop}
+use lib.Seq.{length-take-le, take-append-le, drop-append-le, take-at, drop-at, drop-drop}
 use borrow.Author.Tests.{eqb-true, eqb-false, eq-eqb, ne-eqb}
 use Rattle.wire.specs.Wire.{leAt}
 use Rattle.wire.proofs.Laws.{le-append-left, le-take}
@@ -88,8 +88,7 @@ module _ (fs : List Field) where
     records-each zero s at h e = tt
     records-each (suc n) s at h e =
         let x = or-fine (judgeFields c s at fs) _ e in
-        let w = fields-whole fs c s at h (x .0) in
-        (
+        let w = fields-whole fs c s at h (x .0) in (
           moved-fine at _ (sym (record-apart c s at w) ∙ x .0),
           rw drop-drop (records-each n s (at + total fs) w (x .1)),
         )
@@ -152,6 +151,47 @@ module _ (t : List ℕ) where
       (drawn-all n (q + size 5) s (at + drawnCount t q * size 6) (omega arith)
       (rw drop-drop at (all-right (Fine geometryFields) xs ys a)))
 
+-- the records of a table are as long as they are asked to be, if it has so many
+pub records-sized :
+    (c : Seen) (w n : ℕ) (s : List ℕ) → n * w ≤ length s → All (λ x. length (x .bytes) ≡ w) (recordsFrom c w s n)
+unfolding recordsFrom
+records-sized c w zero s h = tt
+records-sized c w (suc n) s h =
+    let h′ = rw suc-mul at h in
+    (length-take-le w s (omega arith), records-sized c w n (drop w s) (rw length-drop (omega arith)))
+
+-- those of its first bytes
+pub records-first :
+    (c : Seen) (w n : ℕ) (u r : List ℕ) → n * w ≤ length u → recordsFrom c w (u ++ r) n ≡ recordsFrom c w u n
+unfolding recordsFrom
+records-first c w zero u r h = refl
+records-first c w (suc n) u r h =
+    let h′ = rw suc-mul at h in
+    rw (take-append-le w u r (omega arith), drop-append-le w u r (omega arith), records-first c w n (drop w u) r (rw length-drop (omega arith)))
+
+pub drawn-first :
+    (t : List ℕ) (n q : ℕ) (u r : List ℕ)
+    → sumOfCounts t (size 5) (q + 3) n * size 6 ≤ length u
+    → drawnFrom t q (u ++ r) n ≡ drawnFrom t q u n
+unfolding drawnFrom sumOfCounts
+drawn-first t zero q u r h = refl
+drawn-first t (suc n) q u r h =
+    let m = drawnCount t q in
+    let e : q + 3 + 5 ≡ q + 5 + 3 = omega arith in
+    let h′ = rw e at h in
+    rw (
+      records-first (begin (size 5) t (ofBoxes t q)) (size 6) m u r (omega arith),
+      drop-append-le (m * size 6) u r (omega arith),
+      drawn-first t n (q + size 5) (drop (m * size 6) u) r (rw length-drop (omega arith)),
+    )
+
+-- what g makes of each, w bytes each
+pub flat-length :
+    (w : ℕ) (g : Held → List ℕ) (xs : List Held) → All (λ x. length (g x) ≡ w) xs → length (flatten (map g xs)) ≡ length xs * w
+unfolding flatten
+flat-length w g [] l = rw zero-mul
+flat-length w g (x ∷ xs) l = rw (length-append, l .0, flat-length w g xs (l .1), suc-mul) (omega arith)
+
 -- a table made of what g makes of each, w bytes each, and more
 pub cut-at :
     (w : ℕ) (g : Held → List ℕ) (c : Seen) (xs : List Held) (rest : List ℕ)
@@ -174,15 +214,12 @@ module _ (fs : List Field) where
   abbrev pub remade : Held → Held
   remade x = record { seen = x .seen; bytes = bytesIn x }
 
-  pub bytes-length : (xs : List Held) → All (Fine fs) xs → length (flatten (map bytesIn xs)) ≡ length xs * total fs
-  unfolding flatten
-  bytes-length [] a = rw zero-mul
-  bytes-length (x ∷ xs) a =
-      rw (length-append, canonical-length fs (x .seen) (x .bytes) (fine-whole fs x (a .0)), bytes-length xs (a .1), suc-mul) (omega arith)
-
   whole-bytes : (xs : List Held) → All (Fine fs) xs → All (λ x. length (bytesIn x) ≡ total fs) xs
   whole-bytes [] a = tt
   whole-bytes (x ∷ xs) a = (canonical-length fs (x .seen) (x .bytes) (fine-whole fs x (a .0)), whole-bytes xs (a .1))
+
+  pub bytes-length : (xs : List Held) → All (Fine fs) xs → length (flatten (map bytesIn xs)) ≡ length xs * total fs
+  bytes-length xs a = flat-length (total fs) bytesIn xs (whole-bytes xs a)
 
   -- a table made of them, and more
   pub cut :
@@ -221,10 +258,10 @@ cut-drawn t (suc n) q s rest a =
     let a₁ = all-left (Fine geometryFields) xs ys a in
     let m : length xs ≡ drawnCount t q = records-count geometryFields c (drawnCount t q) s in
     let e : f (xs ++ ys) ++ rest ≡ f xs ++ (f ys ++ rest) =
-        rw (flatten-map (bytesIn geometryFields) xs ys) (append-assoc (f xs) (f ys) rest) in
+    rw (flatten-map (bytesIn geometryFields) xs ys) (append-assoc (f xs) (f ys) rest) in
     let l : length (f xs) ≡ drawnCount t q * size 6 = bytes-length geometryFields xs a₁ ∙ ap (λ (k : ℕ). k * size 6) m in
     let r : recordsFrom c (size 6) (f xs ++ (f ys ++ rest)) (drawnCount t q) ≡ map (remade geometryFields) xs =
-        subst (λ (k : ℕ). recordsFrom c (size 6) (f xs ++ (f ys ++ rest)) k ≡ map (remade geometryFields) xs) m
-        (cut geometryFields c xs (f ys ++ rest) (records-seen geometryFields c (drawnCount t q) s) a₁) in
+    subst (λ (k : ℕ). recordsFrom c (size 6) (f xs ++ (f ys ++ rest)) k ≡ map (remade geometryFields) xs) m
+    (cut geometryFields c xs (f ys ++ rest) (records-seen geometryFields c (drawnCount t q) s) a₁) in
     rw (e, r, drop-at (f xs) (f ys ++ rest) (drawnCount t q * size 6) l, cut-drawn t n (q + size 5) (drop (drawnCount t q * size 6) s) rest (all-right (Fine geometryFields) xs ys a))
     (sym (map-append (remade geometryFields) xs ys))

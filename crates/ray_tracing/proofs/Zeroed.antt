@@ -67,25 +67,170 @@ geometry-alike :
     (boxes : Bool) (b : List ℕ) (w : ℕ) (n : Bool) (t : ℕ)
     → let c : Seen = record { before = b; each = w; boxes = boxes; none = n; tag = t } in
     Alike (drop 5 (layout 6 .fields)) c c
-geometry-alike true b w n t =
-    (refl, ((λ v. refl), λ v. (refl, ((λ v. refl), λ v. (refl, ((λ v. refl), λ v. (refl, ((λ v. refl), λ v. (refl, ((λ v. refl), λ v.
-    (refl, ((λ v. refl), λ v. (refl, ((λ v. refl), λ v. (refl, ((λ v. refl), λ v. (refl, ((λ v. refl), λ v. (refl, ((λ v. refl), λ v.
-    tt))))))))))))))))))))
-geometry-alike false b w n t =
-    (refl, ((λ v. refl), λ v. (refl, ((λ v. refl), λ v. (refl, ((λ v. refl), λ i. (refl, ((λ v. refl), λ p. (refl, ((λ v. refl), λ v.
-    with-number b w 4 transformFields (eqb i 65535) p p (λ x y. transform-alike b w (eqb i 65535) x y)))))))))))
+geometry-alike true b w n t = (
+  refl,
+  (
+    (λ v. refl),
+    λ v. (
+      refl,
+      (
+        (λ v. refl),
+        λ v. (
+          refl,
+          (
+            (λ v. refl),
+            λ v. (
+              refl,
+              (
+                (λ v. refl),
+                λ v. (
+                  refl,
+                  (
+                    (λ v. refl),
+                    λ v. (
+                      refl,
+                      (
+                        (λ v. refl),
+                        λ v. (
+                          refl,
+                          (
+                            (λ v. refl),
+                            λ v. (
+                              refl,
+                              (
+                                (λ v. refl),
+                                λ v. (
+                                  refl,
+                                  (
+                                    (λ v. refl),
+                                    λ v. (
+                                      refl,
+                                      (
+                                        (λ v. refl),
+                                        λ v.
+                                            tt,
+                                      ),
+                                    ),
+                                  ),
+                                ),
+                              ),
+                            ),
+                          ),
+                        ),
+                      ),
+                    ),
+                  ),
+                ),
+              ),
+            ),
+          ),
+        ),
+      ),
+    ),
+  ),
+)
+geometry-alike false b w n t = (
+  refl,
+  (
+    (λ v. refl),
+    λ v. (
+      refl,
+      (
+        (λ v. refl),
+        λ v. (
+          refl,
+          (
+            (λ v. refl),
+            λ i. (
+              refl,
+              (
+                (λ v. refl),
+                λ p. (
+                  refl,
+                  (
+                    (λ v. refl),
+                    λ v.
+                        with-number b w 4 transformFields (eqb i 65535) p p (λ x y. transform-alike b w (eqb i 65535) x y),
+                  ),
+                ),
+              ),
+            ),
+          ),
+        ),
+      ),
+    ),
+  ),
+)
 
 -- a declared geometry's fields after its Blas
 declared-alike :
     (boxes : Bool) (b : List ℕ) (w : ℕ) (n : Bool) (t : ℕ)
     → let c : Seen = record { before = b; each = w; boxes = boxes; none = n; tag = t } in
     Alike (drop 1 (layout 3 .fields)) c c
-declared-alike true b w n t =
-    (refl, ((λ v. refl), λ v. (refl, ((λ v. refl), λ v. (refl, ((λ v. refl), λ v. (refl, ((λ v. refl), λ v. (refl, ((λ v. refl), λ v.
-    (refl, ((λ v. refl), λ v. (refl, ((λ v. refl), λ v. (refl, ((λ v. refl), λ v. tt))))))))))))))))
-declared-alike false b w n t =
-    (refl, ((λ v. refl), λ v. (refl, ((λ v. refl), λ v. (refl, ((λ v. refl), λ v. (refl, ((λ v. refl), λ v. (refl, ((λ v. refl), λ v.
-    (refl, ((λ v. refl), λ v. (refl, ((λ v. refl), λ v. (refl, ((λ v. refl), λ v. tt))))))))))))))))
+declared-alike true b w n t = (
+  refl,
+  (
+    (λ v. refl),
+    λ v. (
+      refl,
+      (
+        (λ v. refl),
+        λ v. (
+          refl,
+          (
+            (λ v. refl),
+            λ v. (
+              refl,
+              (
+                (λ v. refl),
+                λ v. (
+                  refl,
+                  (
+                    (λ v. refl),
+                    λ v.
+                        (refl, ((λ v. refl), λ v. (refl, ((λ v. refl), λ v. (refl, ((λ v. refl), λ v. tt)))))),
+                  ),
+                ),
+              ),
+            ),
+          ),
+        ),
+      ),
+    ),
+  ),
+)
+declared-alike false b w n t = (
+  refl,
+  (
+    (λ v. refl),
+    λ v. (
+      refl,
+      (
+        (λ v. refl),
+        λ v. (
+          refl,
+          (
+            (λ v. refl),
+            λ v. (
+              refl,
+              (
+                (λ v. refl),
+                λ v. (
+                  refl,
+                  (
+                    (λ v. refl),
+                    λ v.
+                        (refl, ((λ v. refl), λ v. (refl, ((λ v. refl), λ v. (refl, ((λ v. refl), λ v. tt)))))),
+                  ),
+                ),
+              ),
+            ),
+          ),
+        ),
+      ),
+    ),
+  ),
+)
 
 still : (c : Seen) → ℕ → c ≡ c
 still c v = refl
@@ -105,8 +250,32 @@ layouts-alike =
               (
                 plain (layout 5 .fields) (still, (still, (still, tt))),
                 (
-                  (λ c. (refl, ((λ v. refl), λ v. (refl, ((λ v. refl), λ v. (refl, ((λ v. refl), λ v. (refl, ((λ v. refl), λ v.
-                  (refl, ((λ v. refl), λ v. geometry-alike (c .boxes) (c .before) (c .each) (c .none) (c .tag)))))))))))),
+                  (λ c. (
+                    refl,
+                    (
+                      (λ v. refl),
+                      λ v. (
+                        refl,
+                        (
+                          (λ v. refl),
+                          λ v. (
+                            refl,
+                            (
+                              (λ v. refl),
+                              λ v. (
+                                refl,
+                                (
+                                  (λ v. refl),
+                                  λ v.
+                                      (refl, ((λ v. refl), λ v. geometry-alike (c .boxes) (c .before) (c .each) (c .none) (c .tag))),
+                                ),
+                              ),
+                            ),
+                          ),
+                        ),
+                      ),
+                    ),
+                  )),
                   (
                     plain (layout 7 .fields) (still, (still, tt)),
                     (

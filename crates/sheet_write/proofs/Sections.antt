@@ -1,0 +1,1 @@
+-- A canonical sheet section after section.
