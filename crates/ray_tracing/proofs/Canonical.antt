@@ -152,7 +152,7 @@ module _ (s : List ℕ) (x : Sheet) (e : readSheet s ≡ accepted x) where
       go false l = lent-apart (k + 1) (omega arith) l (size k) (size k) (tables k) (table s k) (tables (k + 1)) ∙ f
 
   -- it stands where it stood
-  length-at : (k : ℕ) → k < 9 → length (tables (k + 1)) ≡ leAt 2 s (past s k) * size (k + 1)
+  pub length-at : (k : ℕ) → k < 9 → length (tables (k + 1)) ≡ leAt 2 s (past s k) * size (k + 1)
   length-at k h = made-at (k + 1) (omega arith) (omega arith) .length′ ∙ accepted-length s x e k h
 
   end-same : (k : ℕ) → k ≤ 9 → endOf tables k ≡ past s k
@@ -160,7 +160,7 @@ module _ (s : List ℕ) (x : Sheet) (e : readSheet s ≡ accepted x) where
   end-same (suc k) h =
       rw (← add-one k, end-more tables k, length-at k (omega arith), past-more s k, end-same k (omega arith))
 
-  count-same : (k : ℕ) → k < 9 → countOf tables (k + 1) ≡ leAt 2 s (past s k)
+  pub count-same : (k : ℕ) → k < 9 → countOf tables (k + 1) ≡ leAt 2 s (past s k)
   count-same k h = rw (length-at k h) (mul-div-cancel (leAt 2 s (past s k)) (size-positive (k + 1) (omega arith)))
 
   section-same : (k : ℕ) → k < 9 → sectionWith tables k ≡ sectionOf s k
