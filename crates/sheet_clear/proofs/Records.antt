@@ -1,6 +1,6 @@
 -- Records made canonical in turn, and those that entries draw: the first where it stands, and then the others, whose bytes are as they were.
-use Prim.Native.Nat.{ℕ, zero, suc, _+_, _-_, _*_, _/_, _≤_, _<_}
-use native.Mathlib.Nat.{suc-mul, zero-mul, add-zero}
+use Prim.Native.Nat.{ℕ, zero, suc, _+_, _-_, _*_, _≤_, _<_}
+use native.Mathlib.Nat.{suc-mul, zero-mul}
 use native.Mathlib.Numerals.{sub-one}
 use native.Mathlib.Omega.{arith}
 use mathlib.Core.Path.{_≡_, refl, sym, ap, _∙_}
@@ -12,7 +12,7 @@ use Rattle.wire.proofs.Laws.{le-past}
 use Rattle.ray_tracing.specs.Layout.{Seen, Field, layout, total, size}
 use Rattle.ray_tracing.specs.Reading.{begin, ofBoxes, drawnCount, sumOfCounts}
 use Rattle.ray_tracing.proofs.Reading.{sum-more}
-use Rattle.ray_tracing.specs.Meaning.{Held, recordsFrom, drawnFrom}
+use Rattle.ray_tracing.specs.Meaning.{recordsFrom, drawnFrom}
 use Rattle.ray_tracing.specs.Canonical.{canonicalRecord, heldCanonical}
 use Rattle.sheet_clear.specs.Cleared.{recordCleared, BlasesInside}
 use Rattle.sheet_clear.proofs.Writes.{write-next, length-kept}
