@@ -62,8 +62,8 @@ blases-next k c u s at n h e b q i l =
     let p : at + size k + i * 18 ≡ at + (i + 1) * 18 = omega arith in
     rw (e, le-past 2 (recordCleared k c s at) s at (at + size k + i * 18) (omega (arith, length-cleared k c s at h)), p) (b q (i + 1) (omega arith))
 
--- n records as bytes are n times a record's
-length-records :
+-- n canonical records have n times a record's bytes
+pub length-records :
     (k : ℕ) (c : Seen) (n : ℕ) (r : List ℕ)
     → n * size k ≤ length r
     → length (flatten (map (heldCanonical k) (recordsFrom c (size k) r n))) ≡ n * size k
@@ -75,7 +75,7 @@ length-records k c (suc n) r h =
     rw (length-append, length-canonical (layout k .fields) c (take (size k) r) (omega arith), length-records k c n (drop (size k) r) (simp length-drop (omega arith)))
     (omega arith)
 
-flatten-append : {A : Type 0} (f : A → List ℕ) (a b : List A) → flatten (map f (a ++ b)) ≡ flatten (map f a) ++ flatten (map f b)
+pub flatten-append : {A : Type 0} (f : A → List ℕ) (a b : List A) → flatten (map f (a ++ b)) ≡ flatten (map f a) ++ flatten (map f b)
 unfolding flatten
 flatten-append f [] b = refl
 flatten-append f (x ∷ a) b = rw (flatten-append f a b, append-assoc)

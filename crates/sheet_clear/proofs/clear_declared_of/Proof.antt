@@ -1,6 +1,6 @@
 -- `sheet_clear::clear_declared_of` meets its contract: past the first seven bytes the fields are of triangles.
-use mathlib.Core.Bool.{not}
 use native.Mathlib.Nat.{add-zero}
+use mathlib.Core.Bool.{not}
 use mathlib.Core.Path.{refl}
 use mathlib.Core.List.{[], _∷_}
 use borrow.Author.Needs.{needs}

@@ -1,6 +1,6 @@
 -- `sheet_clear::clear_slot` meets its contract: the bytes after the first go by it.
-use mathlib.Core.Bool.{not}
 use native.Mathlib.Nat.{add-zero}
+use mathlib.Core.Bool.{not}
 use mathlib.Core.Path.{refl}
 use mathlib.Core.List.{[], _∷_}
 use lib.Dec.{eqb}
