@@ -1,6 +1,6 @@
 -- Records made canonical in turn, and those that entries draw: the first where it stands, and then the others, whose bytes are as they were.
-use Prim.Native.Nat.{ℕ, zero, suc, _+_, _-_, _*_, _/_, _≤_, _<_}
-use native.Mathlib.Nat.{suc-mul, zero-mul, add-zero}
+use Prim.Native.Nat.{ℕ, zero, suc, _+_, _-_, _*_, _≤_, _<_}
+use native.Mathlib.Nat.{suc-mul, zero-mul}
 use native.Mathlib.Numerals.{sub-one}
 use native.Mathlib.Omega.{arith}
 use mathlib.Core.Path.{_≡_, refl, sym, ap, _∙_}
@@ -14,7 +14,7 @@ use Rattle.ray_tracing.specs.Reading.{begin, ofBoxes, drawnCount, sumOfCounts}
 use Rattle.ray_tracing.proofs.Reading.{sum-more}
 use Rattle.ray_tracing.proofs.Zeroed.{canonical-length}
 use Rattle.ray_tracing.proofs.Held.{flatten-map}
-use Rattle.ray_tracing.specs.Meaning.{Held, recordsFrom, drawnFrom}
+use Rattle.ray_tracing.specs.Meaning.{recordsFrom, drawnFrom}
 use Rattle.ray_tracing.specs.Canonical.{canonicalRecord, heldCanonical}
 use Rattle.sheet_clear.specs.Cleared.{recordCleared, BlasesInside}
 use Rattle.sheet_clear.proofs.Writes.{write-next, length-kept}
@@ -53,8 +53,8 @@ blases-next k c u s at n h e b q i l =
     let p : at + size k + i * 18 ≡ at + (i + 1) * 18 = omega arith in
     rw (e, le-past 2 (recordCleared k c s at) s at (at + size k + i * 18) (omega (arith, length-cleared k c s at h)), p) (b q (i + 1) (omega arith))
 
--- n records as bytes are n times a record's
-length-records :
+-- n canonical records have n times a record's bytes
+pub length-records :
     (k : ℕ) (c : Seen) (n : ℕ) (r : List ℕ)
     → n * size k ≤ length r
     → length (flatten (map (heldCanonical k) (recordsFrom c (size k) r n))) ≡ n * size k

@@ -8,14 +8,14 @@ use wire::u16_at;
 ghost use mathlib.Core.Path.{_≡_};
 ghost use mathlib.Core.Bool.{Bool, true};
 ghost use mathlib.Core.List.{map, flatten};
-ghost use Prim.Native.Nat.{ℕ, _+_, _-_, _*_, _/_, _≤_, _<_};
+ghost use Prim.Native.Nat.{_+_, _-_, _*_, _/_, _≤_, _<_};
 ghost use lib.ListN.{length, drop, replicate};
 ghost use lib.Seq.{sets};
 ghost use Rattle.wire.specs.Wire.{leAt};
-ghost use Rattle.ray_tracing.specs.Layout.{Seen, kindKnown, layout, size};
+ghost use Rattle.ray_tracing.specs.Layout.{Seen, kindKnown, size};
 ghost use Rattle.ray_tracing.specs.Reading.{begin, sumOfCounts};
 ghost use Rattle.ray_tracing.specs.Meaning.{recordsFrom, drawnFrom};
-ghost use Rattle.ray_tracing.specs.Canonical.{canonicalRecord, heldCanonical};
+ghost use Rattle.ray_tracing.specs.Canonical.{heldCanonical};
 ghost use Rattle.sheet_clear.specs.Cleared.{clearedUnless, hasUnused, recordCleared, BlasesInside};
 
 fn clear(out: &mut [u8], at: usize, n: usize)

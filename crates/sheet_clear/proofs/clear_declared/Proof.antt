@@ -1,5 +1,5 @@
 -- `sheet_clear::clear_declared` meets its contract: the record's Blas is there, and its kind goes for the record.
-use mathlib.Core.Path.{refl, _∙_}
+use mathlib.Core.Path.{refl}
 use borrow.Author.Needs.{needs}
 use Rattle.ray_tracing.specs.Layout.{size}
 use Rattle.ray_tracing.specs.Reading.{begin}

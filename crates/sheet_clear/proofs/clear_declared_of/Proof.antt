@@ -1,9 +1,10 @@
 -- `sheet_clear::clear_declared_of` meets its contract: past the first seven bytes the fields are of triangles.
+use native.Mathlib.Nat.{add-zero}
 use mathlib.Core.Bool.{not}
-use mathlib.Core.Path.{refl, sym, ap, _∙_}
-use lib.Seq.{sets}
+use mathlib.Core.Path.{refl}
+use mathlib.Core.List.{[], _∷_}
 use borrow.Author.Needs.{needs}
-use Rattle.sheet_clear.proofs.Runs.{run, end, record-cleared, declared-runs}
+use Rattle.sheet_clear.proofs.Runs.{group, end, record-cleared}
 use Rattle.sheet_clear.proofs.clear_declared_of.Statement.{statement}
 use Rattle.sheet_clear.proofs.clear_declared_of.Tie as tie
 
@@ -35,14 +36,16 @@ returns : tie.Need-returns
 returns c seen known =
     let a = c .before .before .before .before .before .before .before .before .before .before .before .before .args in
     record-cleared
-    (run (not (a .boxes)) 7 (run (c .before .before .before .before .before .before .before .before .both .result) 4 end))
-    (a .at)
-    7
+    3
+    seen
+    (2 ∷ 1 ∷ 4 ∷ [])
+    (group (not (a .boxes)) (1 ∷ 2 ∷ 2 ∷ 1 ∷ 1 ∷ []) (group (c .before .before .before .before .before .before .before .before .both .result) (4 ∷ []) end))
     (a .out .now)
+    (a .at)
     (c .before .before .before .before .before .before .before .before .before .before .before .before .pre)
+    refl
+    (rw (add-zero, c .before .before .before .before .before .before .before .before .both .ensures, c .before .before .before .before .before .before .before .before .before .u8-at .ensures, ← known))
     (_, (c .before .before .before .before .before .before .clear-unless .ensures, (_, (c .before .before .clear-unless2 .ensures, refl))))
-    ∙ rw (c .before .before .before .before .before .before .before .before .both .ensures, c .before .before .before .before .before .before .before .before .before .u8-at .ensures, ← known)
-    (ap (sets (a .out .now) (a .at)) (sym (declared-runs seen (a .out .now) (a .at) (c .before .before .before .before .before .before .before .before .before .before .before .before .pre))))
 
 pub clear-declared-of-spec : {M : Type 1} → statement M
 clear-declared-of-spec =

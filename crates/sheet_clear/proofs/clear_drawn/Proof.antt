@@ -1,15 +1,15 @@
 -- `sheet_clear::clear_drawn` meets its contract. The invariant: what the entries that are left draw, cleared, is what all was to be.
-use Prim.Native.Nat.{_+_, _-_, _*_, _/_, _≤_}
+use Prim.Native.Nat.{_+_, _*_, _/_, _≤_}
 use native.Mathlib.Omega.{arith}
-use mathlib.Core.Path.{_≡_, refl, sym, ap, _∙_}
+use mathlib.Core.Path.{_≡_, refl, _∙_}
 use mathlib.Core.List.{flatten}
 use lib.ListN.{length}
 use lib.Seq.{sets}
 use borrow.Author.Needs.{needs}
 use Rattle.ray_tracing.specs.Layout.{size}
-use Rattle.ray_tracing.specs.Reading.{begin, ofBoxes, drawnCount, sumOfCounts}
+use Rattle.ray_tracing.specs.Reading.{sumOfCounts}
 use Rattle.ray_tracing.specs.Meaning.{drawnFrom}
-use Rattle.sheet_clear.proofs.Records.{recordsCleared, drawnCleared, drawn-next, drawn-sum}
+use Rattle.sheet_clear.proofs.Records.{drawnCleared, drawn-next, drawn-sum}
 use Rattle.sheet_clear.proofs.clear_drawn.Statement.{statement}
 use Rattle.sheet_clear.proofs.clear_drawn.Tie as tie
 

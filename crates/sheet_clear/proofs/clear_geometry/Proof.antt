@@ -1,10 +1,10 @@
 -- `sheet_clear::clear_geometry` meets its contract: past the first nineteen bytes the fields are of triangles, some with a buffer.
 use native.Mathlib.Omega.{arith}
 use mathlib.Core.Bool.{not}
-use mathlib.Core.Path.{refl, sym, ap, _∙_}
-use lib.Seq.{sets}
+use mathlib.Core.Path.{refl}
+use mathlib.Core.List.{[], _∷_}
 use borrow.Author.Needs.{needs}
-use Rattle.sheet_clear.proofs.Runs.{run, end, record-cleared, geometry-runs}
+use Rattle.sheet_clear.proofs.Runs.{group, end, record-cleared}
 use Rattle.sheet_clear.proofs.clear_geometry.Statement.{statement}
 use Rattle.sheet_clear.proofs.clear_geometry.Tie as tie
 
@@ -100,35 +100,49 @@ same-length c = search needs
 
 returns : tie.Need-returns
 returns c seen known =
-    let a = c .before .before .before .before .before .before .before .before .before .before .before .before .before .before .before .before .before .before .before .before .before .before .before .before .before .before .before .before .before .before .before .before .before .before .before .before .before .before .before .before .before .before .before .before .args in
+    let c7 = c .before .before in
+    let c6 = c7 .before .before .before .before in
+    let c5 = c6 .before .before .before .before in
+    let c4 = c5 .before .before .before .before in
+    let c3 = c4 .before .before .before .before in
+    let c2 = c3 .before .before .before .before in
+    let c1 = c2 .before .before .before .before in
+    let b5 = c1 .before .before in
+    let b4 = b5 .before .before .before in
+    let b3 = b4 .before .before .before in
+    let b2 = b3 .before .before .before in
+    let b1 = b2 .before .before .before in
+    let start = b1 .before .before .before .before in
     record-cleared
-    (run (not (a .boxes)) 5
-    (run (c .before .before .before .before .before .before .before .before .before .before .before .before .before .before .before .before .before .before .before .before .before .before .before .before .before .before .before .before .before .before .before .before .before .before .before .before .before .before .before .before .both .result) 4
-    (run (c .before .before .before .before .before .before .before .before .before .before .before .before .before .before .before .before .before .before .before .before .before .before .before .before .before .before .before .before .before .before .before .before .before .before .before .before .before .both2 .result) 1
-    (run (c .before .before .before .before .before .before .before .before .before .before .before .before .before .before .before .before .before .before .before .before .before .before .before .before .before .before .before .before .before .before .before .before .before .before .both3 .result) 4
-    (run (not (a .boxes)) 2
-    (run (c .before .before .before .before .before .before .before .before .before .before .before .before .before .before .before .before .before .before .before .before .before .before .before .before .before .before .before .before .before .before .before .both4 .result) 1
-    (run (c .before .before .before .before .before .before .before .before .before .before .before .before .before .before .before .before .before .before .before .before .before .before .before .before .before .before .before .before .both5 .result) 8
+    6
+    seen
+    (1 ∷ 4 ∷ 4 ∷ 8 ∷ 2 ∷ [])
+    (group (not (start .args .boxes)) (1 ∷ 1 ∷ 2 ∷ 1 ∷ [])
+    (group (b1 .both .result) (4 ∷ [])
+    (group (b2 .both2 .result) (1 ∷ [])
+    (group (b3 .both3 .result) (4 ∷ [])
+    (group (not (start .args .boxes)) (2 ∷ [])
+    (group (b4 .both4 .result) (1 ∷ [])
+    (group (b5 .both5 .result) (8 ∷ [])
     end)))))))
-    (a .at)
-    19
-    (a .out .now)
-    (c .before .before .before .before .before .before .before .before .before .before .before .before .before .before .before .before .before .before .before .before .before .before .before .before .before .before .before .before .before .before .before .before .before .before .before .before .before .before .before .before .before .before .before .before .pre)
-    (_, (c .before .before .before .before .before .before .before .before .before .before .before .before .before .before .before .before .before .before .before .before .before .before .before .before .before .before .clear-unless .ensures, (_, (c .before .before .before .before .before .before .before .before .before .before .before .before .before .before .before .before .before .before .before .before .before .before .clear-unless2 .ensures, (_, (c .before .before .before .before .before .before .before .before .before .before .before .before .before .before .before .before .before .before .clear-unless3 .ensures, (_, (c .before .before .before .before .before .before .before .before .before .before .before .before .before .before .clear-unless4 .ensures, (_, (c .before .before .before .before .before .before .before .before .before .before .clear-unless5 .ensures, (_, (c .before .before .before .before .before .before .clear-unless6 .ensures, (_, (c .before .before .clear-unless7 .ensures, refl))))))))))))))
-    ∙ rw (
-      c .before .before .before .before .before .before .before .before .before .before .before .before .before .before .before .before .before .before .before .before .before .before .before .before .before .before .before .before .both5 .ensures,
-      c .before .before .before .before .before .before .before .before .before .before .before .before .before .before .before .before .before .before .before .before .before .before .before .before .before .before .before .before .before .before .before .before .before .before .both3 .ensures,
-      c .before .before .before .before .before .before .before .before .before .before .before .before .before .before .before .before .before .before .before .before .before .before .before .before .before .before .before .before .before .before .before .both4 .ensures,
-      c .before .before .before .before .before .before .before .before .before .before .before .before .before .before .before .before .before .before .before .before .before .before .before .before .before .before .before .before .before .before .before .before .before .before .before .before .before .both2 .ensures,
-      c .before .before .before .before .before .before .before .before .before .before .before .before .before .before .before .before .before .before .before .before .before .before .before .before .before .before .before .before .before .before .before .before .before .before .before .before .before .before .before .before .both .ensures,
-      c .before .before .before .before .before .before .before .before .before .before .before .before .before .before .before .before .before .before .before .before .before .before .before .before .before .before .before .before .before .u8-at3 .ensures,
-      c .before .before .before .before .before .before .before .before .before .before .before .before .before .before .before .before .before .before .before .before .before .before .before .before .before .before .before .before .before .before .before .before .u16-at2 .ensures,
-      c .before .before .before .before .before .before .before .before .before .before .before .before .before .before .before .before .before .before .before .before .before .before .before .before .before .before .before .before .before .before .before .before .before .before .before .u8-at2 .ensures,
-      c .before .before .before .before .before .before .before .before .before .before .before .before .before .before .before .before .before .before .before .before .before .before .before .before .before .before .before .before .before .before .before .before .before .before .before .before .before .before .u16-at .ensures,
-      c .before .before .before .before .before .before .before .before .before .before .before .before .before .before .before .before .before .before .before .before .before .before .before .before .before .before .before .before .before .before .before .before .before .before .before .before .before .before .before .before .before .u8-at .ensures,
+    (start .args .out .now)
+    (start .args .at)
+    (start .pre)
+    refl
+    (rw (
+      b5 .both5 .ensures,
+      b3 .both3 .ensures,
+      b4 .both4 .ensures,
+      b2 .both2 .ensures,
+      b1 .both .ensures,
+      b5 .before .u8-at3 .ensures,
+      b4 .before .u16-at2 .ensures,
+      b3 .before .u8-at2 .ensures,
+      b2 .before .u16-at .ensures,
+      b1 .before .u8-at .ensures,
       ← known,
-    )
-    (ap (sets (a .out .now) (a .at)) (sym (geometry-runs seen (a .out .now) (a .at) (c .before .before .before .before .before .before .before .before .before .before .before .before .before .before .before .before .before .before .before .before .before .before .before .before .before .before .before .before .before .before .before .before .before .before .before .before .before .before .before .before .before .before .before .before .pre))))
+    ))
+    (_, (c1 .clear-unless .ensures, (_, (c2 .clear-unless2 .ensures, (_, (c3 .clear-unless3 .ensures, (_, (c4 .clear-unless4 .ensures, (_, (c5 .clear-unless5 .ensures, (_, (c6 .clear-unless6 .ensures, (_, (c7 .clear-unless7 .ensures, refl))))))))))))))
 
 pub clear-geometry-spec : {M : Type 1} → statement M
 clear-geometry-spec =
