@@ -1,7 +1,7 @@
 -- `sheet_write::write_table` meets its contract: the section picks the function; where all fields are used the table is canonical.
 use mathlib.Core.Path.{_≡_}
 use mathlib.Core.Bool.{false}
-use mathlib.Core.Logic.{inl, inr}
+use native.Mathlib.Omega.{arith}
 use borrow.Author.Tests.{ne-eqb}
 use Rattle.ray_tracing.proofs.TableMeaning.{mayBeUnused, used-table}
 use borrow.Author.Needs.{needs}
@@ -51,7 +51,8 @@ returns-4 c =
     let start = c .before .before .before .before .before .before .before .before .before in
     let k = start .args .section in
     let r = c .before .before .before .before .before .match .rest in
-    let u : mayBeUnused k ≡ false = ? in
+    let u : mayBeUnused k ≡ false =
+        rw (ne-eqb k 3 (r .0 .1), ne-eqb k 6 (r .1), ne-eqb k 8 (λ e. omega (arith, e)), ne-eqb k 9 (λ e. omega (arith, e))) in
     rw (used-table k (start .pre .0 .0) u _ _ (start .pre .1 .1)) (c .before .before .put-bytes .ensures)
 
 pub write-table-spec : {M : Type 1} → statement M
