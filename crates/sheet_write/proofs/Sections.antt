@@ -1,17 +1,18 @@
 -- A canonical sheet section after section: where each stands, and that its count and its table, after those before it, make the sheet.
 use Prim.Native.Nat.{ℕ, zero, suc, _+_, _-_, _*_, _/_, _≤_, _<_}
-use native.Mathlib.Nat.{add-zero, zero-add}
+use native.Mathlib.Nat.{zero-add, mul-div-cancel}
 use native.Mathlib.Omega.{arith}
 use mathlib.Core.Path.{_≡_, refl, sym, ap, _∙_}
 use mathlib.Core.List.{List, [], _∷_, _++_, append-assoc}
 use lib.ListN.{length, getD, take, drop, length-append}
-use lib.Seq.{sets, length-take-le, drop-cons, take-add}
+use lib.Seq.{sets, drop-drop, take-add}
 use Rattle.wire.specs.Wire.{leAt, leBytes}
 use Rattle.wire.proofs.Laws.{sets-append, leBytes-at, length-leBytes}
 use Rattle.ray_tracing.specs.declared.Sheet.{Sheet}
 use Rattle.ray_tracing.specs.Layout.{layout, size}
 use Rattle.ray_tracing.specs.Reading.{fine, judgeLent, past, from, table, sheetOf, sectionOf, accepted, answer, readSheet, judgeSheet}
-use Rattle.ray_tracing.specs.Canonical.{countOf, sectionBytes, headerBytes, sheetBytes, canonicalTables, canonical}
+use Rattle.ray_tracing.specs.Canonical.{countOf, sectionBytes, headerBytes, sheetBytes, canonicalTable, canonicalTables, canonical}
+use Rattle.ray_tracing.proofs.Each.{size-positive}
 use Rattle.ray_tracing.proofs.Instances.{Below}
 use Rattle.ray_tracing.proofs.Reading.{past-more, from-more, section-most}
 use Rattle.ray_tracing.proofs.Sheets.{accepted-version, accepted-section, accepted-whole, accepted-length, accepted-lent, table-section}
@@ -22,7 +23,7 @@ pub read-of : (s : List ℕ) → judgeSheet s ≡ fine → readSheet s ≡ accep
 unfolding readSheet
 read-of s e = rw e
 
-module _ (s : List ℕ) (f : judgeSheet s ≡ fine) (b : Below s) where
+module _ (s : List ℕ) (f : judgeSheet s ≡ fine) where
   abbrev x : Sheet
   x = sheetOf s
 
@@ -53,35 +54,21 @@ module _ (s : List ℕ) (f : judgeSheet s ≡ fine) (b : Below s) where
         let d : past s k + 2 + leAt 2 s (past s k) * size (k + 1) - (past s k + 2) ≡ leAt 2 s (past s k) * size (k + 1) = omega arith in
         rw d (sym (table-section s k))
 
+    pub table-length : length (table s (k + 1)) ≡ leAt 2 s (past s k) * size (k + 1)
+    table-length = accepted-length s x e k h
+
     pub lent-here : judgeLent (k + 1) (layout (k + 1)) (size (k + 1 - 1)) (table s k) (table s (k + 1)) ≡ fine
     lent-here =
         let j : k + 1 - 1 ≡ k = omega arith in
         rw j (accepted-lent s x e k h)
 
-    -- its count's bytes
-    count-bytes : take 2 (drop (past s k) s) ≡ leBytes 2 (countOf tables (k + 1))
-    count-bytes = rw (count-same s x e k h) (sym (leBytes-at 2 s (past s k) b (omega (arith, whole))))
-
-    pub section-made :
-        (out out₁ out₂ : List ℕ)
-        → out₁ ≡ sets out (past s k) (take (past s k + 2 - past s k) (drop (past s k) s))
-        → out₂ ≡ sets out₁ (past s k + 2) (canonicalTables s (k + 1))
-        → out₂ ≡ sets out (past s k) (sectionWritten s k)
-    section-made out out₁ out₂ p q =
-        let d : past s k + 2 - past s k ≡ 2 = omega arith in
-        let p′ : out₁ ≡ sets out (past s k) (leBytes 2 (countOf tables (k + 1))) = p ∙ rw (d, count-bytes) in
-        q
-        ∙ rw (p′, ← length-leBytes 2 (countOf tables (k + 1)))
-        (sets-append (leBytes 2 (countOf tables (k + 1))) (tables (k + 1)) out (past s k))
-
   -- at most 128 Blases
   pub few-blases : (k : ℕ) → k < 9 → k + 1 ≡ 3 → length (table s k) / size 2 ≤ 128
-  few-blases k h j = ?
-
-  -- ---- the sheet
-
-  pub header-made : take 13 s ≡ headerBytes (leAt 4 s 1) (leAt 8 s 5)
-  header-made = ?
+  few-blases k h j =
+      let i : k ≡ 2 = omega arith in
+      let l : length (table s 2) ≡ leAt 2 s (past s 1) * size 2 = accepted-length s x e 1 (omega arith) in
+      let m = section-most s 1 (from s 1) (past s 1) (accepted-section s x e 1 (omega arith)) in
+      rw (i, l) (omega (arith, m, mul-div-cancel (leAt 2 s (past s 1)) (size-positive 2 (omega arith))))
 
   -- the sections from k on, after those before
   pub sections-next :
@@ -90,4 +77,69 @@ module _ (s : List ℕ) (f : judgeSheet s ≡ fine) (b : Below s) where
       → out₁ ≡ sets out (past s k) (sectionWritten s k)
       → sets out₁ (past s (k + 1)) (sectionBytes tables (k + 1) (9 - (k + 1))) ≡ sets out (past s k) (sectionBytes tables k (9 - k))
   unfolding sectionBytes
-  sections-next out out₁ k h p = ?
+  sections-next out out₁ k h p =
+      let w = sectionWritten s k in
+      let r = sectionBytes tables (k + 1) (9 - (k + 1)) in
+      let n : 9 - k ≡ suc (9 - (k + 1)) = omega arith in
+      let l : past s (k + 1) ≡ past s k + length w =
+          past-more s k
+          ∙ omega (arith, length-append (leBytes 2 (countOf tables (k + 1))) (tables (k + 1)), length-leBytes 2 (countOf tables (k + 1)), length-at s x e k h) in
+      ap (λ (o : List ℕ). sets o (past s (k + 1)) r) p
+      ∙ ap (λ (at : ℕ). sets (sets out (past s k) w) at r) l
+      ∙ sets-append w r out (past s k)
+      ∙ ap (sets out (past s k)) (append-assoc (leBytes 2 (countOf tables (k + 1))) (tables (k + 1)) r)
+      ∙ ap (λ (m : ℕ). sets out (past s k) (sectionBytes tables k m)) (sym n)
+
+  module _ (b : Below s) where
+    module _ (k : ℕ) (h : k < 9) where
+      -- its count's bytes
+      count-bytes : take 2 (drop (past s k) s) ≡ leBytes 2 (countOf tables (k + 1))
+      count-bytes = rw (count-same s x e k h) (sym (leBytes-at 2 s (past s k) b (omega (arith, whole k h))))
+
+      pub section-made :
+          (out out₁ out₂ : List ℕ)
+          → out₁ ≡ sets out (past s k) (take (past s k + 2 - past s k) (drop (past s k) s))
+          → out₂ ≡ sets out₁ (past s k + 2) (canonicalTable (k + 1) (table s k) (table s (k + 1)))
+          → out₂ ≡ sets out (past s k) (sectionWritten s k)
+      section-made out out₁ out₂ p q =
+          let d : past s k + 2 - past s k ≡ 2 = omega arith in
+          let p′ : out₁ ≡ sets out (past s k) (leBytes 2 (countOf tables (k + 1))) = p ∙ rw (d, count-bytes) in
+          let count = leBytes 2 (countOf tables (k + 1)) in
+          let j : k + 1 - 1 ≡ k = omega arith in
+          let q′ : out₂ ≡ sets out₁ (past s k + 2) (tables (k + 1)) =
+              q ∙ ap (λ (i : ℕ). sets out₁ (past s k + 2) (canonicalTable (k + 1) (table s i) (table s (k + 1)))) (sym j) in
+          q′
+          ∙ ap (λ (o : List ℕ). sets o (past s k + 2) (tables (k + 1))) p′
+          ∙ ap (λ (n : ℕ). sets (sets out (past s k) count) (past s k + n) (tables (k + 1))) (sym (length-leBytes 2 (countOf tables (k + 1))))
+          ∙ sets-append count (tables (k + 1)) out (past s k)
+
+    pub header-made : take 13 s ≡ headerBytes (leAt 4 s 1) (leAt 8 s 5)
+    header-made =
+        let l : 13 ≤ length s = omega (arith, whole 0 (omega arith), first-past) in
+        let v : take 1 s ≡ 1 ∷ [] = sym (leBytes-at 1 s 0 b (omega arith)) ∙ ap (leBytes 1) (accepted-version s x e) ∙ one in
+        take-add 1 12 s
+        ∙ rw v
+        (ap (λ (t : List ℕ). 1 ∷ t)
+        (take-add 4 8 (drop 1 s)
+        ∙ rw (drop-drop 4 1 s, leBytes-at 4 s 1 b (omega arith), leBytes-at 8 s 5 b (omega arith))))
+      where
+        one : leBytes 1 1 ≡ 1 ∷ []
+        one = unfold leBytes in refl
+
+        first-past : past s 0 ≡ 13
+        first-past = unfold past in refl
+
+    -- all of them, after the header
+    pub sheet-made :
+        (out out₁ out₂ : List ℕ)
+        → out₁ ≡ sets out 0 (take 13 s)
+        → out₂ ≡ sets out₁ 13 (sectionBytes tables 0 9)
+        → out₂ ≡ sets out 0 (canonical s)
+    unfolding canonical sheetBytes
+    sheet-made out out₁ out₂ p q =
+        let t = headerBytes (leAt 4 s 1) (leAt 8 s 5) in
+        let l : length t ≡ 13 = omega (arith, length-append (leBytes 4 (leAt 4 s 1)) (leBytes 8 (leAt 8 s 5)), length-leBytes 4 (leAt 4 s 1), length-leBytes 8 (leAt 8 s 5)) in
+        q
+        ∙ ap (λ (o : List ℕ). sets o 13 (sectionBytes tables 0 9)) (p ∙ ap (sets out 0) header-made)
+        ∙ ap (λ (n : ℕ). sets (sets out 0 t) n (sectionBytes tables 0 9)) (sym l ∙ sym (zero-add (length t)))
+        ∙ sets-append t (sectionBytes tables 0 9) out 0

@@ -78,7 +78,8 @@ fn write_table(out: &mut [u8], at: usize, section: usize, table: &[u8], before: 
     match section {
         3 => write_declared(out, at, table, before),
         6 => write_geometries(out, at, table, before),
-        8 | 9 => write_records(out, at, section, table, before),
+        8 => write_records(out, at, section, table, before),
+        9 => write_records(out, at, section, table, before),
         _ => put_bytes(out, at, table),
     }
 }

@@ -1,7 +1,6 @@
 -- `sheet_write::write_table` meets its contract: the section picks the function; where all fields are used the table is canonical.
 use mathlib.Core.Path.{_≡_}
 use mathlib.Core.Bool.{false}
-use native.Mathlib.Omega.{arith}
 use borrow.Author.Tests.{ne-eqb}
 use Rattle.ray_tracing.proofs.TableMeaning.{mayBeUnused, used-table}
 use borrow.Author.Needs.{needs}
@@ -21,6 +20,9 @@ write-geometries-requires c κs =
 
 write-records-requires : tie.Need-write-records-requires
 write-records-requires c κs = search needs
+
+write-records-requires-2 : tie.Need-write-records-requires-2
+write-records-requires-2 c κs = search needs
 
 put-bytes-requires : tie.Need-put-bytes-requires
 put-bytes-requires c κs = search needs
@@ -47,12 +49,17 @@ same-length-4 : tie.Need-same-length-4
 same-length-4 c = search needs
 
 returns-4 : tie.Need-returns-4
-returns-4 c =
-    let start = c .before .before .before .before .before .before .before .before .before in
+returns-4 c = search needs
+
+same-length-5 : tie.Need-same-length-5
+same-length-5 c = search needs
+
+returns-5 : tie.Need-returns-5
+returns-5 c =
+    let start = c .before .before .before .before .before .before .before .before in
     let k = start .args .section in
-    let r = c .before .before .before .before .before .match .rest in
-    let u : mayBeUnused k ≡ false =
-        rw (ne-eqb k 3 (r .0 .1), ne-eqb k 6 (r .1), ne-eqb k 8 (λ e. omega (arith, e)), ne-eqb k 9 (λ e. omega (arith, e))) in
+    let r = c .before .before .before .before .match .rest in
+    let u : mayBeUnused k ≡ false = rw (ne-eqb k 3 (r .0 .0 .0 .1), ne-eqb k 6 (r .0 .0 .1), ne-eqb k 8 (r .0 .1), ne-eqb k 9 (r .1)) in
     rw (used-table k (start .pre .0 .0) u _ _ (start .pre .1 .1)) (c .before .before .put-bytes .ensures)
 
 pub write-table-spec : {M : Type 1} → statement M
@@ -62,6 +69,7 @@ write-table-spec =
     write-declared-requires
     write-geometries-requires
     write-records-requires
+    write-records-requires-2
     put-bytes-requires
     same-length
     returns
@@ -70,4 +78,6 @@ write-table-spec =
     same-length-3
     returns-3
     same-length-4
-    returns-4)
+    returns-4
+    same-length-5
+    returns-5)
