@@ -23,6 +23,14 @@ pub read-of : (s : List ℕ) → judgeSheet s ≡ fine → readSheet s ≡ accep
 unfolding readSheet
 read-of s e = rw e
 
+pub first-past : (s : List ℕ) → past s 0 ≡ 13
+unfolding past
+first-past s = refl
+
+pub first-from : (s : List ℕ) → from s 0 ≡ 13
+unfolding from
+first-from s = refl
+
 module _ (s : List ℕ) (f : judgeSheet s ≡ fine) where
   abbrev x : Sheet
   x = sheetOf s
@@ -115,7 +123,7 @@ module _ (s : List ℕ) (f : judgeSheet s ≡ fine) where
 
     pub header-made : take 13 s ≡ headerBytes (leAt 4 s 1) (leAt 8 s 5)
     header-made =
-        let l : 13 ≤ length s = omega (arith, whole 0 (omega arith), first-past) in
+        let l : 13 ≤ length s = omega (arith, whole 0 (omega arith), first-past s) in
         let v : take 1 s ≡ 1 ∷ [] = sym (leBytes-at 1 s 0 b (omega arith)) ∙ ap (leBytes 1) (accepted-version s x e) ∙ one in
         take-add 1 12 s
         ∙ rw v
@@ -126,16 +134,13 @@ module _ (s : List ℕ) (f : judgeSheet s ≡ fine) where
         one : leBytes 1 1 ≡ 1 ∷ []
         one = unfold leBytes in refl
 
-        first-past : past s 0 ≡ 13
-        first-past = unfold past in refl
-
-    -- all of them, after the header
+    -- all of them, after the header; none are left
     pub sheet-made :
         (out out₁ out₂ : List ℕ)
         → out₁ ≡ sets out 0 (take 13 s)
-        → out₂ ≡ sets out₁ 13 (sectionBytes tables 0 9)
+        → sets out₂ (past s 9) (sectionBytes tables 9 0) ≡ sets out₁ (past s 0) (sectionBytes tables 0 9)
         → out₂ ≡ sets out 0 (canonical s)
-    unfolding canonical sheetBytes
+    unfolding canonical sheetBytes sectionBytes past
     sheet-made out out₁ out₂ p q =
         let t = headerBytes (leAt 4 s 1) (leAt 8 s 5) in
         let l : length t ≡ 13 = omega (arith, length-append (leBytes 4 (leAt 4 s 1)) (leBytes 8 (leAt 8 s 5)), length-leBytes 4 (leAt 4 s 1), length-leBytes 8 (leAt 8 s 5)) in

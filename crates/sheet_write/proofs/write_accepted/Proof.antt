@@ -1,53 +1,113 @@
+-- `sheet_write::write_accepted` meets its contract. The invariant: the sections that are left, written from here, make the whole.
+use Prim.Native.Nat.{_+_, _-_, _≤_}
+use native.Mathlib.Omega.{arith}
+use mathlib.Core.Path.{_≡_, refl, sym, ap, _∙_}
+use lib.ListN.{length, length-take}
+use lib.Seq.{sets, length-sets}
+use Rattle.ray_tracing.specs.Reading.{past, from}
+use Rattle.ray_tracing.specs.Canonical.{sectionBytes, canonicalTables}
+use Rattle.ray_tracing.proofs.Instances.{Below}
+use Rattle.ray_tracing.proofs.Reading.{from-more}
+use Rattle.sheet_write.proofs.Sections.{first-past, first-from, whole, sections-next, sheet-made}
 use Rattle.sheet_write.proofs.write_accepted.Statement.{statement}
 use Rattle.sheet_write.proofs.write_accepted.Tie as tie
 
 abbrev Inv-loop : tie.InvT-loop
-Inv-loop out₀ sheet p₀ b₀ k₀ out p b k = ?
+Inv-loop out₀ sheet p₀ b₀ k₀ out p b k =
+    ((k ≤ 9) × (length out ≡ length out₀))
+    × (((b ≡ from sheet k) × (p ≡ past sheet k))
+    × (sets out (past sheet k) (sectionBytes (canonicalTables sheet) k (9 - k)) ≡ sets out₀ (past sheet 0) (sectionBytes (canonicalTables sheet) 0 9)))
 
 abbrev μ-loop : tie.MeasureT-loop
-μ-loop out₀ sheet p₀ b₀ k₀ out p b k = ?
+μ-loop out₀ sheet p₀ b₀ k₀ out p b k = 9 - k
 
 size-of-requires : tie.Need-size-of-requires Inv-loop μ-loop
-size-of-requires c κs = ?
+size-of-requires c κs = omega arith
 
 add-p : tie.Need-add-p Inv-loop μ-loop
-add-p c = ?
+add-p c = omega (arith, c .size-of .ensures)
 
 sub-put-bytes : tie.Need-sub-put-bytes Inv-loop μ-loop
-sub-put-bytes c = ?
+sub-put-bytes c = omega arith
 
 part-put-bytes-start : tie.Need-part-put-bytes-start Inv-loop μ-loop
-part-put-bytes-start c = ?
+part-put-bytes-start c = omega arith
 
 part-put-bytes-end : tie.Need-part-put-bytes-end Inv-loop μ-loop
-part-put-bytes-end c = ?
+part-put-bytes-end c =
+    let start = c .before .before .before .before in
+    let s = start .args .sheet .now in
+    let f = start .pre .0 in
+    omega (arith, c .before .size-of .ensures, whole s f 0 (omega arith), first-past s)
 
 put-bytes-requires : tie.Need-put-bytes-requires Inv-loop μ-loop
-put-bytes-requires c κs = ?
+put-bytes-requires c κs =
+    let start = c .before .before .before .before .before in
+    let s = start .args .sheet .now in
+    let f = start .pre .0 in
+    simp length-take (omega (arith, c .before .before .size-of .ensures, whole s f 0 (omega arith), first-past s, start .pre .1))
 
 loop-holds : tie.Need-loop-holds Inv-loop μ-loop
-loop-holds c = ?
+loop-holds c =
+    let s = c .before .before .before .before .before .before .before .before .args .sheet .now in
+    let z = c .before .before .before .before .before .size-of .ensures in
+    ((omega arith, refl), ((omega (arith, z, first-from s), omega (arith, z, first-past s)), refl))
 
 write-section-requires : tie.Need-write-section-requires Inv-loop μ-loop
-write-section-requires c κs = ?
+write-section-requires c κs =
+    let start = c .before .before .before .before .before .before .before .before .before .before .before in
+    let s = start .args .sheet .now in
+    let f = start .pre .0 in
+    let inv = c .before .before .loop .inv in
+    let l = simp length-sets at (ap length (c .before .before .before .before .before .put-bytes .ensures)) in
+    ((f, omega (arith, inv .0 .1, l, start .pre .1)), (c .before .loop-test .taken, inv .1 .0))
 
 add-b : tie.Need-add-b Inv-loop μ-loop
-add-b c = ?
+add-b c =
+    let start = c .before .before .before .before .before .before .before .before .before .before .before .before .before .before in
+    let s = start .args .sheet .now in
+    let f = start .pre .0 in
+    let at-loop = c .before .before .before .before .before in
+    omega (arith, whole s f (at-loop .loop .k) (c .before .before .before .before .loop-test .taken), at-loop .loop .inv .1 .0 .1)
 
 add-k : tie.Need-add-k Inv-loop μ-loop
-add-k c = ?
+add-k c = omega (arith, c .before .before .before .before .loop-test .taken)
 
 loop-less : tie.Need-loop-less Inv-loop μ-loop
-loop-less c = ?
+loop-less c = omega (arith, c .before .before .before .before .loop-test .taken)
 
 loop-again : tie.Need-loop-again Inv-loop μ-loop
-loop-again c = ?
+loop-again c =
+    let start = c .before .before .before .before .before .before .before .before .before .before .before .before .before .before in
+    let s = start .args .sheet .now in
+    let f = start .pre .0 in
+    let at-loop = c .before .before .before .before .before in
+    let inv = at-loop .loop .inv in
+    let k = at-loop .loop .k in
+    let h = c .before .before .before .before .loop-test .taken in
+    let pe = inv .1 .0 .1 in
+    let done = c .before .before .write-section .ensures in
+    let l = simp length-sets at (ap length (done .1)) in
+    (
+      (omega (arith, h), omega (arith, l, inv .0 .1)),
+      ((rw pe (sym (from-more s k)), done .0), sections-next s f (at-loop .loop .out) _ k h (rw pe at (done .1)) ∙ inv .1 .1),
+    )
 
 same-length : tie.Need-same-length Inv-loop μ-loop
-same-length c = ?
+same-length c =
+    let l = simp length-sets at (ap length (c .before .before .before .before .put-bytes .ensures)) in
+    omega (arith, c .before .loop .inv .0 .1, l)
 
 returns : tie.Need-returns Inv-loop μ-loop
-returns c = ?
+returns c =
+    let start = c .before .before .before .before .before .before .before .before .before .before in
+    let s = start .args .sheet .now in
+    let f = start .pre .0 in
+    let inv = c .before .loop .inv in
+    let nine : c .before .loop .k ≡ 9 = omega (arith, inv .0 .0, c .loop-test .left) in
+    let b : Below s = λ i. c .before .before .before .before .before .before .before .before .shared-slice-known .given i .fits in
+    let z : 1 + c .before .before .before .before .before .before .before .size-of .result - 0 ≡ 13 = omega (arith, c .before .before .before .before .before .before .before .size-of .ensures) in
+    sheet-made s f b _ _ _ (rw z at (c .before .before .before .before .put-bytes .ensures)) (rw nine at (inv .1 .1))
 
 pub write-accepted-spec : {M : Type 1} → statement M
 write-accepted-spec =
