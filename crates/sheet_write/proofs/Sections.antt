@@ -90,8 +90,8 @@ module _ (s : List ℕ) (f : judgeSheet s ≡ fine) where
       let r = sectionBytes tables (k + 1) (9 - (k + 1)) in
       let n : 9 - k ≡ suc (9 - (k + 1)) = omega arith in
       let l : past s (k + 1) ≡ past s k + length w =
-          past-more s k
-          ∙ omega (arith, length-append (leBytes 2 (countOf tables (k + 1))) (tables (k + 1)), length-leBytes 2 (countOf tables (k + 1)), length-at s x e k h) in
+      past-more s k
+      ∙ omega (arith, length-append (leBytes 2 (countOf tables (k + 1))) (tables (k + 1)), length-leBytes 2 (countOf tables (k + 1)), length-at s x e k h) in
       ap (λ (o : List ℕ). sets o (past s (k + 1)) r) p
       ∙ ap (λ (at : ℕ). sets (sets out (past s k) w) at r) l
       ∙ sets-append w r out (past s k)
@@ -115,7 +115,7 @@ module _ (s : List ℕ) (f : judgeSheet s ≡ fine) where
           let count = leBytes 2 (countOf tables (k + 1)) in
           let j : k + 1 - 1 ≡ k = omega arith in
           let q′ : out₂ ≡ sets out₁ (past s k + 2) (tables (k + 1)) =
-              q ∙ ap (λ (i : ℕ). sets out₁ (past s k + 2) (canonicalTable (k + 1) (table s i) (table s (k + 1)))) (sym j) in
+          q ∙ ap (λ (i : ℕ). sets out₁ (past s k + 2) (canonicalTable (k + 1) (table s i) (table s (k + 1)))) (sym j) in
           q′
           ∙ ap (λ (o : List ℕ). sets o (past s k + 2) (tables (k + 1))) p′
           ∙ ap (λ (n : ℕ). sets (sets out (past s k) count) (past s k + n) (tables (k + 1))) (sym (length-leBytes 2 (countOf tables (k + 1))))

@@ -34,9 +34,9 @@ module _ (out : List ℕ) (at : ℕ) (u : List ℕ) (h : at + length u ≤ lengt
   pub over : (v : List ℕ) → length v ≡ length u → sets (sets out at u) at v ≡ sets out at v
   over v l =
       let f : take at (sets out at u) ≡ take at out =
-          rw (sets-eq u out at h, append-assoc) (take-at (take at out) (u ++ drop (at + length u) out) at front) in
+      rw (sets-eq u out at h, append-assoc) (take-at (take at out) (u ++ drop (at + length u) out) at front) in
       let d : drop (at + length v) (sets out at u) ≡ drop (at + length v) out =
-          rw (sets-eq u out at h, l) (drop-at (take at out ++ u) (drop (at + length u) out) (at + length u) (rw (length-append, front))) in
+      rw (sets-eq u out at h, l) (drop-at (take at out ++ u) (drop (at + length u) out) (at + length u) (rw (length-append, front))) in
       sets-eq v (sets out at u) at (rw (length-sets, l) h) ∙ rw (f, d) (sym (sets-eq v out at (rw l h)))
 
 -- ---- records by their index
@@ -137,18 +137,18 @@ module _ (t s : List ℕ) (f : judgeLent 3 (layout 3) (size 2) t s ≡ fine) whe
 
 module _ (t s : List ℕ) (f : judgeLent 6 (layout 6) (size 5) t s ≡ fine) (out out₁ : List ℕ) (at : ℕ) (h : at + length s ≤ length out) (e : out₁ ≡ sets out at s)
   where
-  pub drawn-room : at + sumOfCounts t (size 5) 3 (length t / size 5) * size 6 ≤ length out₁
-  drawn-room = rw (e, length-sets, all-drawn t s f) h
+    pub drawn-room : at + sumOfCounts t (size 5) 3 (length t / size 5) * size 6 ≤ length out₁
+    drawn-room = rw (e, length-sets, all-drawn t s f) h
 
-  pub geometries-written :
-      (out₂ : List ℕ)
-      → out₂ ≡ sets out₁ at (flatten (map (heldCanonical 6) (drawnFrom t 0 (drop at out₁) (length t / size 5))))
-      → out₂ ≡ sets out at (canonicalTable 6 t s)
-  unfolding canonicalTable
-  geometries-written out₂ g =
-      g
-      ∙ rw (e, part out at s h, drawn-first t (length t / size 5) 0 s (drop (at + length s) out) (omega (arith, all-drawn t s f)))
-      (over out at s h (flatten (map (heldCanonical 6) (drawnFrom t 0 s (length t / size 5)))) (made-drawn t s f .length′))
+    pub geometries-written :
+        (out₂ : List ℕ)
+        → out₂ ≡ sets out₁ at (flatten (map (heldCanonical 6) (drawnFrom t 0 (drop at out₁) (length t / size 5))))
+        → out₂ ≡ sets out at (canonicalTable 6 t s)
+    unfolding canonicalTable
+    geometries-written out₂ g =
+        g
+        ∙ rw (e, part out at s h, drawn-first t (length t / size 5) 0 s (drop (at + length s) out) (omega (arith, all-drawn t s f)))
+        (over out at s h (flatten (map (heldCanonical 6) (drawnFrom t 0 s (length t / size 5)))) (made-drawn t s f .length′))
 
 -- ---- slots, actions
 
@@ -170,22 +170,22 @@ module _
     (t s : List ℕ)
     (f : judgeLent k (layout k) (size (k - 1)) t s ≡ fine)
   where
-  records-room : length s / size k * size k ≡ length s
-  records-room = omega (arith, lent-tells k (layout k) (size (k - 1)) t s f .whole, div-add-mod' (length s) (size k))
+    records-room : length s / size k * size k ≡ length s
+    records-room = omega (arith, lent-tells k (layout k) (size (k - 1)) t s f .whole, div-add-mod' (length s) (size k))
 
-  module _ (out out₁ : List ℕ) (at : ℕ) (h : at + length s ≤ length out) (e : out₁ ≡ sets out at s) where
-    pub room-there : at + length s / size k * size k ≤ length out₁
-    room-there = rw (e, length-sets, records-room) h
+    module _ (out out₁ : List ℕ) (at : ℕ) (h : at + length s ≤ length out) (e : out₁ ≡ sets out at s) where
+      pub room-there : at + length s / size k * size k ≤ length out₁
+      room-there = rw (e, length-sets, records-room) h
 
-    pub records-written :
-        (out₂ : List ℕ)
-        → out₂ ≡ sets out₁ at (flatten (map (heldCanonical k) (recordsFrom (begin (size (k - 1)) t false) (size k) (drop at out₁) (length s / size k))))
-        → out₂ ≡ sets out at (canonicalTable k t s)
-    unfolding canonicalTable
-    records-written out₂ g =
-        let c = begin (size (k - 1)) t false in
-        let l : length (flatten (map (heldCanonical k) (recordsFrom c (size k) s (length s / size k)))) ≡ length s =
-            rw (three, six) at (made-as-read k b six t s f three .length′) in
-        g
-        ∙ rw (e, part out at s h, records-first c (size k) (length s / size k) s (drop (at + length s) out) (omega (arith, records-room)), three, six)
-        (over out at s h (flatten (map (heldCanonical k) (recordsFrom c (size k) s (length s / size k)))) l)
+      pub records-written :
+          (out₂ : List ℕ)
+          → out₂ ≡ sets out₁ at (flatten (map (heldCanonical k) (recordsFrom (begin (size (k - 1)) t false) (size k) (drop at out₁) (length s / size k))))
+          → out₂ ≡ sets out at (canonicalTable k t s)
+      unfolding canonicalTable
+      records-written out₂ g =
+          let c = begin (size (k - 1)) t false in
+          let l : length (flatten (map (heldCanonical k) (recordsFrom c (size k) s (length s / size k)))) ≡ length s =
+          rw (three, six) at (made-as-read k b six t s f three .length′) in
+          g
+          ∙ rw (e, part out at s h, records-first c (size k) (length s / size k) s (drop (at + length s) out) (omega (arith, records-room)), three, six)
+          (over out at s h (flatten (map (heldCanonical k) (recordsFrom c (size k) s (length s / size k)))) l)

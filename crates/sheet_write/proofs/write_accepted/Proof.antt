@@ -87,8 +87,7 @@ loop-again c =
     let h = c .before .before .before .before .loop-test .taken in
     let pe = inv .1 .0 .1 in
     let done = c .before .before .write-section .ensures in
-    let l = simp length-sets at (ap length (done .1)) in
-    (
+    let l = simp length-sets at (ap length (done .1)) in (
       (omega (arith, h), omega (arith, l, inv .0 .1)),
       ((rw pe (sym (from-more s k)), done .0), sections-next s f (at-loop .loop .out) _ k h (rw pe at (done .1)) ∙ inv .1 .1),
     )

@@ -23,8 +23,7 @@ clear-records-requires c κs =
     let start = c .before .before .before .before .before .before .before .before .before .before in
     let k = start .args .section in
     let l = late k (start .pre .0 .0) (start .pre .0 .1) in
-    let q : c .before .before .before .before .before .records-in .result ≡ length (start .args .table .now) / size k = cc in
-    (
+    let q : c .before .before .before .before .before .records-in .result ≡ length (start .args .table .now) / size k = cc in (
       (start .pre .0 .1, l .1),
       (
         rw q (room-there k (start .pre .0 .1) (l .0 .0) (l .0 .1) _ _ (start .pre .1 .1) _ _ _ (start .pre .1 .0) (c .before .before .before .put-bytes .ensures)),

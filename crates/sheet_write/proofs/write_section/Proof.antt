@@ -113,10 +113,9 @@ write-table-requires c κs =
     let m : c .before .before .before .before .before .before .before .before .before .u16-at .result * c .before .before .before .before .before .before .before .before .size-of .result ≡ leAt 2 s (past s k) * size (k + 1) = cc in
     let before : take (start .args .p - start .args .b) (drop (start .args .b) s) ≡ table s k = rw (be, pe) in
     let here : take (start .args .p + 2 + c .before .before .before .before .before .before .before .before .before .u16-at .result * c .before .before .before .before .before .before .before .before .size-of .result - (start .args .p + 2)) (drop (start .args .p + 2) s) ≡ table s (k + 1) =
-        rw (m, pe) (table-here s f k h) in
+    rw (m, pe) (table-here s f k h) in
     let l = simp length-sets at (ap length (c .before .before .before .before .before .put-bytes .ensures)) in
-    rw (before, here)
-    (
+    rw (before, here) (
       (omega (arith, h), few-blases s f k h),
       (omega (arith, whole s f k h, table-length s f k h, l, pe, start .pre .0 .1), lent-here s f k h),
     )
@@ -136,10 +135,9 @@ returns c =
     let m : c .before .before .before .before .before .before .before .before .before .before .before .before .u16-at .result * c .before .before .before .before .before .before .before .before .before .before .before .size-of .result ≡ leAt 2 s (past s k) * size (k + 1) = cc in
     let before : take (start .args .p - start .args .b) (drop (start .args .b) s) ≡ table s k = rw (be, pe) in
     let here : take (start .args .p + 2 + c .before .before .before .before .before .before .before .before .before .before .before .before .u16-at .result * c .before .before .before .before .before .before .before .before .before .before .before .size-of .result - (start .args .p + 2)) (drop (start .args .p + 2) s) ≡ table s (k + 1) =
-        rw (m, pe) (table-here s f k h) in
+    rw (m, pe) (table-here s f k h) in
     let b : Below s = λ i. c .before .before .before .before .before .before .before .before .before .before .before .before .before .shared-slice-known .given i .fits in
-    let g = rw (here, before) at (c .before .before .write-table .ensures) in
-    (
+    let g = rw (here, before) at (c .before .before .write-table .ensures) in (
       rw (m, pe) (sym (past-more s k)),
       rw pe (section-made s f b k h _ _ _ (rw pe at (c .before .before .before .before .before .before .before .before .put-bytes .ensures)) (rw pe at g)),
     )
