@@ -31,10 +31,18 @@ fn print_same(a: &[u8], b: &[u8]) {
     }
 }
 
-// By the first bytes of each, where both are written.
-fn compare(a: &mut [u8], n: usize, b: &mut [u8], m: usize) {
+// The first n, where there are so many; else none.
+fn first(bytes: &[u8], n: usize) -> &[u8] {
+    if bytes.len() < n {
+        return &bytes[0..0];
+    }
+    &bytes[0..n]
+}
+
+// By what is written of each, where both are.
+fn compare(a: &[u8], n: usize, b: &[u8], m: usize) {
     if 0 < n && 0 < m {
-        print_same(cases::first_u8(a, n), cases::first_u8(b, m));
+        print_same(first(a, n), first(b, m));
     }
 }
 
@@ -47,7 +55,7 @@ fn next_case() -> bool {
         return false;
     }
     let m = write_next(&mut b);
-    compare(&mut a, n, &mut b, m);
+    compare(&a, n, &b, m);
     true
 }
 
