@@ -131,13 +131,7 @@ fn written(text: &[u8], out: &mut [u8]) -> Numbers<2> {
 
 #[no_mangle]
 pub unsafe extern "C" fn zakvind_write_sheet(sheet: *const u8, n: usize, out: *mut u8, m: usize) -> Numbers<3> {
-    let sheet = lent(sheet, n);
-    let [number, place, ..] = reading().read_sheet(sheet);
-    if number != 0 {
-        return Numbers([number, place, 0]);
-    }
-    let Numbers([number, length]) = written(&canonical::canonical(sheet), lent_mut(out, m));
-    Numbers([number, 0, length])
+    Numbers(reading().write(lent(sheet, n), lent_mut(out, m)))
 }
 
 #[no_mangle]

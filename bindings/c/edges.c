@@ -243,27 +243,27 @@ static void written(void)
     must(w.number == 0 && w.place == 0 && w.written == n, "a sheet written");
     must(all(anew + n, sizeof anew - n, 0x5a), "what is past the sheet is kept");
     must(memcmp(anew, sheet, n) != 0, "this one has another order and leftovers");
-    const zakvind_sheet old = zakvind_read_sheet(sheet, n), new = zakvind_read_sheet(anew, n);
-    must(memcmp(&old, &new, sizeof old) == 0, "what is written is read, and has the same sections");
-    const uint8_t *d = anew + new.sections[2].start;
+    const zakvind_sheet before = zakvind_read_sheet(sheet, n), after = zakvind_read_sheet(anew, n);
+    must(memcmp(&before, &after, sizeof before) == 0, "what is written is read, and has the same sections");
+    const uint8_t *d = anew + after.sections[2].start;
     for (size_t i = 1; i < ZAKVIND_MOST_DECLARED; i++)
         must(zakvind_unpack_declared(d + i * ZAKVIND_DECLARED_BYTES).blas >= zakvind_unpack_declared(d + (i - 1) * ZAKVIND_DECLARED_BYTES).blas,
              "declared geometries by Blas");
     for (size_t i = 0; i < ZAKVIND_MOST_SLOTS; i++) {
-        const uint8_t *slot = anew + new.sections[7].start + i * ZAKVIND_SLOT_BYTES;
+        const uint8_t *slot = anew + after.sections[7].start + i * ZAKVIND_SLOT_BYTES;
         must(slot[0] || all(slot, ZAKVIND_SLOT_BYTES, 0), "an absent slot is zero");
     }
     w = zakvind_write_sheet(anew, n, again, n);
     must(w.number == 0 && memcmp(again, anew, n) == 0, "written once more it is the same");
     /* an absent slot's leftovers count for nothing, a present one's bytes do */
-    sheet[old.sections[7].start + 7] ^= 1;
+    sheet[before.sections[7].start + 7] ^= 1;
     w = zakvind_write_sheet(sheet, n, again, n);
     must(w.number == 0 && memcmp(again, anew, n) == 0, "another leftover is written the same");
-    sheet[old.sections[7].start + 7] ^= 1;
-    sheet[old.sections[7].start + ZAKVIND_SLOT_BYTES + 7] ^= 1;
+    sheet[before.sections[7].start + 7] ^= 1;
+    sheet[before.sections[7].start + ZAKVIND_SLOT_BYTES + 7] ^= 1;
     w = zakvind_write_sheet(sheet, n, again, n);
     must(w.number == 0 && memcmp(again, anew, n) != 0, "another bit that is used is written otherwise");
-    sheet[old.sections[7].start + ZAKVIND_SLOT_BYTES + 7] ^= 1;
+    sheet[before.sections[7].start + ZAKVIND_SLOT_BYTES + 7] ^= 1;
 }
 
 /* ---- a refused append */
