@@ -248,8 +248,9 @@ def test_output_lost():
         with open("/dev/full", "wb") as full:
             run = Run(box, *words, stdout=full)
         assert run.status == 2 and run.err.count("\n") == 1 and "standard output" in run.err, run
-    run = Run(box, SHEETS / "usable.sheet", stdout=None, preexec_fn=lambda: os.close(1))
-    assert run.status == 2 and run.err.count("\n") == 1, run
+    for words in ((usable,), ("--canonical", usable), ("--same", usable, usable)):
+        run = Run(box, *words, stdout=None, preexec_fn=lambda: os.close(1))
+        assert run.status == 2 and run.err.count("\n") == 1, run
 
 
 NAMES = ("-n.sheet", "--", "a b.sheet", "a\nb.sheet", "*.sheet", "$(x).sheet", "'\".sheet", "-", " ", "\\n", "a:b", "\udcff.sheet")
