@@ -304,7 +304,7 @@ fn unused() -> Raw {
     raw
 }
 
-fn write_row(name: &str, what: &str, raw: &Raw) -> Anew {
+fn written_anew(name: &str, what: &str, raw: &Raw) -> Anew {
     let sheet = raw.sheet();
     let mut out = vec![1u8; sheet.len()];
     let mut target = out.clone();
@@ -480,8 +480,8 @@ fn main() {
     ];
     let (append, copy) = append_rows();
     let anew = [
-        write_row("write-full", "a full sheet, nearly all of it used", &tables(&FULL)),
-        write_row("write-unused", "a full sheet of boxes and absent slots", &unused()),
+        written_anew("write-full", "a full sheet, nearly all of it used", &tables(&FULL)),
+        written_anew("write-unused", "a full sheet of boxes and absent slots", &unused()),
     ];
     let growth: Vec<Row> = [1, 4, 16, 64]
         .map(|n| build_row(&format!("entries-{n}"), &format!("{n} entries, {} geometries", 4 * n), &only_entries(n)))
