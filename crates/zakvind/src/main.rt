@@ -1,7 +1,7 @@
 // zakvind [VERB]: reads a sheet from standard input and prints its lines; with the verb `explain` also what they refuse, in words; with
 // `canonical` in their place its canonical bytes. For other arguments it prints nothing. Of an input that is longer than the buffer the first
-// 65,536 bytes are read: the first 56,416 decide what is printed (`report-prefix` of `report`, `explained-prefix` of `explain`), and no sheet
-// has more than 56,415, so that no part of a longer input is written as a sheet.
+// 65,536 bytes are read: the first 56,416 decide what is printed (`report-prefix` of `report`, `explained-prefix` of `explain`) and whether a
+// sheet is read at all (`prefix-decides` of `ray_tracing`). None has more than 56,415, so that no part of a longer input is written as one.
 use libc::STDIN_FILENO;
 use libc::STDOUT_FILENO;
 use ray_tracing::Reported;
