@@ -1,5 +1,5 @@
-"""A reading of the request for a canonical writer over the sheet's description in format/, written apart from the definitions: what an accepted
-sheet means, and its canonical bytes. Neither goes by the other, so that each can be held to it."""
+"""A reading of the request for a canonical writer over the sheet's description in format/, written apart from the definitions: what an
+accepted sheet means, and its canonical bytes. Neither goes by the other, so that each can be held to it."""
 from reading import HEAD, SECTIONS, Walked, read, single
 
 

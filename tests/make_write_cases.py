@@ -1,7 +1,7 @@
 #!/usr/bin/env python3
 """Writes crates/cases_write/stdin, pairs of sheets, each sheet after its length and the room that it is written into, as u32s; and
-crates/cases_write/stdout, by canonical.py a line for each sheet: number, place, bytes written and a hash of all the room, filled with a pattern
-before; and after two that are written whether they mean the same.
+crates/cases_write/stdout, by canonical.py a line for each sheet: number, place, bytes written and a hash of all the room, filled with a
+pattern before; and after two that are written whether they mean the same.
 
 The reading is held to itself: over all sheets that are made, two mean the same exactly when their canonical bytes are equal, and canonical
 bytes are read, mean the same and are their own canonical bytes."""
@@ -193,7 +193,7 @@ def nan_pairs():
 
 
 def order_pairs(rng):
-    """Declared geometries of a few Blases, of either kind: two neighbours swapped, of one Blas or of two, alike or not; and all of them reversed."""
+    """Declared geometries of a few Blases, of either kind: two neighbours swapped, of one Blas or of two, alike or not; and all reversed."""
     for _ in range(40):
         made = some_sheet(rng, (0, rng.randint(1, 4), rng.randint(2, 6), 0, 0, 0, 0, 0, 0))
         declared = made.sections[2]
@@ -204,7 +204,8 @@ def order_pairs(rng):
 
 def random_pairs(rng):
     for _ in range(70):
-        made = some_sheet(rng, (rng.randint(0, 2), rng.randint(0, 3), rng.randint(0, 4), rng.randint(0, 2), *drawing(rng), *drawing(rng), rng.randint(0, 3)))
+        first = (rng.randint(0, 2), rng.randint(0, 3), rng.randint(0, 4), rng.randint(0, 2))
+        made = some_sheet(rng, (*first, *drawing(rng), *drawing(rng), rng.randint(0, 3)))
         data = made.data()
         yield data, other_leftovers(rng, made).data()
         yield data, one_bit_off(rng, other_leftovers(rng, made).data())
