@@ -9,6 +9,7 @@ import sys
 ROOT = pathlib.Path(__file__).resolve().parent.parent
 ENTRY = {
     "read_sheet": "sheet",
+    "write_sheet": "sheet_write",
     "build_acceleration_structures": "build",
     "submit": "submit",
     "validate_acceleration_structure_actions": "submit",

@@ -133,12 +133,14 @@ for paper in ["README.md", "docs/PROMISES.md", "docs/DECISIONS.md"]:
 # ---- contracts
 
 CALLS = {
+    "write_sheet": "WritesSheet",
     "build_acceleration_structures": "Builds",
     "submit": "Submits",
     "validate_acceleration_structure_actions": "Validates",
     "append_instance": "Appends",
     "report": "Puts",
     "explain": "Puts",
+    "zakvind_write_sheet": "WritesSheetAs",
     "zakvind_build": "BuildsAs",
     "zakvind_submit": "Validates",
     "zakvind_append_instance": "AppendsAs",

@@ -284,6 +284,46 @@ fn read_row() -> Row {
     Row { name: "read-full".into(), what: "reading a full sheet, 56,415 bytes".into(), rust, made: rust, ours }
 }
 
+/// Nanoseconds of a sheet written anew, of reading it alone, and of a plain memory copy of its bytes.
+struct Anew {
+    name: String,
+    what: String,
+    ours: f64,
+    read: f64,
+    copy: f64,
+}
+
+/// A full sheet with as much unused as there can be: boxes, and absent slots.
+fn unused() -> Raw {
+    let mut raw = tables(&FULL);
+    for (section, field, value) in [(BLASES, blas::KIND, 1), (ENTRIES, entry::KIND, 1), (SLOTS, slot::PRESENT, 0)] {
+        for i in 0..raw.count(section) {
+            raw.set(section, i, field, value);
+        }
+    }
+    raw
+}
+
+fn written_anew(name: &str, what: &str, raw: &Raw) -> Anew {
+    let sheet = raw.sheet();
+    let mut out = vec![1u8; sheet.len()];
+    let mut target = out.clone();
+    assert_eq!(zakvind::raw::write_sheet(&sheet, &mut out).written as usize, 56_415);
+    let [ours, read, copy] = times(
+        [
+            &mut || {
+                black_box(zakvind::raw::write_sheet(black_box(&sheet), black_box(&mut out)));
+            },
+            &mut || {
+                black_box(zakvind::raw::read_sheet(black_box(&sheet)));
+            },
+            &mut || black_box(&mut target).copy_from_slice(black_box(&sheet)),
+        ],
+        &mut || {},
+    );
+    Anew { name: name.into(), what: what.into(), ours, read, copy }
+}
+
 fn build_row(name: &str, what: &str, shape: &Shape) -> Row {
     let raw = tables(shape);
     let t = raw.tables();
@@ -439,6 +479,10 @@ fn main() {
         submit_row(100_000),
     ];
     let (append, copy) = append_rows();
+    let anew = [
+        written_anew("write-full", "a full sheet, nearly all of it used", &tables(&FULL)),
+        written_anew("write-unused", "a full sheet of boxes and absent slots", &unused()),
+    ];
     let growth: Vec<Row> = [1, 4, 16, 64]
         .map(|n| build_row(&format!("entries-{n}"), &format!("{n} entries, {} geometries", 4 * n), &only_entries(n)))
         .into_iter()
@@ -449,6 +493,11 @@ fn main() {
         }))
         .collect();
 
+    let mut writing = String::new();
+    for r in &anew {
+        let times = [r.ours, r.read, r.copy].map(micro).join(" | ");
+        let _ = writeln!(writing, "| {} | {times} | {:.2} | {:.2} |", r.what, r.ours / r.read, r.ours / r.copy);
+    }
     let instances = rows.iter().find(|r| r.name == "instances-512").unwrap();
     let table = |rows: &[Row]| {
         let mut text = String::new();
@@ -475,6 +524,10 @@ fn main() {
          looked at five times before its bytes are (its present byte, its id, its custom data and flags, and twice where present ones are \
          counted) and once more for the recorded list; the bytes themselves take one pass. In either way an instance's twelve numbers go \
          through `f32`, with the patterns of NaNs beside them; an appended one is a call of its own with an answer of seven numbers.\n\n\
+         A sheet written anew, against reading it alone and a plain memory copy of its 56,415 bytes, which is what a caller has who cannot \
+         tell whether two sheets agree. The ratios are ours / reading and ours / copy; it judges the sheet as reading does, and then writes it \
+         section by section.\n\n\
+         | What | writing | reading | copy | to reading | to a copy |\n|---|---|---|---|---|---|\n{writing}\n\
          The program `zakvind` on a full sheet, from its start to its end: {program}.\n\n\
          ## How it grows\n\n\
          | Work | Rust | Rust, made | Zakvind | ratio | made |\n|---|---|---|---|---|---|\n{growth}\n\
@@ -523,6 +576,10 @@ fn main() {
     }
     for r in &rows {
         println!("beforehand {} {:.2}", r.name, r.made / r.ours);
+    }
+    for r in &anew {
+        println!("write {} {:.2}", r.name, r.ours / r.read);
+        println!("copy {} {:.2}", r.name, r.ours / r.copy);
     }
     println!("copy instances-512 {:.2}", instances.ours / copy);
     println!("copy append-512 {:.2}", append.ours / copy);

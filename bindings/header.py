@@ -37,6 +37,7 @@ def main():
     reached = re.search(r"const CAN_GIVE.*?\n\];", text("oracle/src/compare.rs"), re.S)[0]
     can_give = {CALLS[call]: numbers(given) - {0} for call, given in re.findall(r'"(\w+)",\s*&\[([\d,\s]+)\]', reached)}
     can_give |= {name: {39} for name in TEXTS}
+    can_give["write_sheet"] = can_give["read_sheet"] | {39}  # the Rust has no sheet to write
     if said != can_give:
         faults.append(f"the header says that calls refuse by\n  {said}\nand they can by\n  {can_give}")
 

@@ -139,6 +139,12 @@ typedef struct {
     uint64_t written;
 } zakvind_reported;
 
+typedef struct {
+    uint64_t number;
+    uint64_t place; /* of the refused byte; 0 for 39 */
+    uint64_t written;
+} zakvind_written;
+
 /* The room that a build's outputs need, in elements. */
 typedef struct {
     size_t blas_offsets, tlas_offsets, staging_ranges, instances, init_ranges, compactable, lists;
@@ -203,6 +209,12 @@ static inline zakvind_room zakvind_room_for(
 /* Reads a sheet: where its sections are, or the first refusal and its byte place. Refuses by 1 to 5. */
 zakvind_sheet zakvind_read_sheet(const uint8_t *sheet, size_t sheet_len);
 
+/* Writes a sheet anew, as many bytes as it has: unused fields zero, declared geometries by Blas number and those of one Blas in
+ * their order. What is written is read, and means the same; two sheets come to equal bytes exactly when they mean the same: as
+ * read, unused fields aside, floats by their bits, each Blas's declared geometries in order. Refuses by 1 to 5 and 39, the
+ * reader's numbers first and at its place, and then writes nothing; room for the sheet's own length is always enough. */
+zakvind_written zakvind_write_sheet(const uint8_t *sheet, size_t sheet_len, uint8_t *out, size_t out_len);
+
 /* Judges a build and writes its plan: an offset for each entry, one for each package, start and end of each package's
  * staging range, 64 bytes for each present slot, buffer, start and end of each initialisation range, the compactable Blases,
  * and the recorded action's lists, which zakvind_submit takes as (1, 0, entries, packages).
@@ -264,7 +276,8 @@ enum {
     ZAKVIND_CALL_SHEET = 1,      /* e0 is the place */
     ZAKVIND_CALL_BUILD = 2,
     ZAKVIND_CALL_SUBMISSION = 3, /* e0 is the action, e1 its kind, 0 where that is not known */
-    ZAKVIND_CALL_APPEND = 4
+    ZAKVIND_CALL_APPEND = 4,
+    ZAKVIND_CALL_WRITE = 5       /* e0 is the place */
 };
 zakvind_reported zakvind_words(
     uint64_t call, uint64_t number, uint64_t e0, uint64_t e1, uint64_t f0, uint64_t f1, uint64_t f2, uint8_t *out, size_t out_len);

@@ -93,15 +93,16 @@ static void seen(int k, size_t bytes)
         puts("a rare sum");
 }
 
-static void done(void)
+/* Takes back what was lent from number k on. */
+static void done_from(int k)
 {
-    for (int k = 0; k < count; k++) {
-        free(lents[k].before);
+    while (count > k) {
+        count--;
+        free(lents[count].before);
 #ifdef ALONE
-        free(lents[k].at);
+        free(lents[count].at);
 #endif
     }
-    count = 0;
 }
 
 /* ---- answers as coverage */
@@ -173,6 +174,34 @@ static void speak(uint64_t call, uint64_t answer, uint64_t e0, uint64_t e1, uint
     kept(k + 1, 0, "words that don't fit are not written");
 }
 
+/* The sheet written anew into its own length, which is enough; into a byte less, into `room`, and what is written once more. */
+static void write_anew(const uint8_t *sheet, size_t n, size_t room, const zakvind_sheet *r)
+{
+    const int k = count;
+    const size_t rooms[4] = {n, n ? n - 1 : 0, room, n + 3};
+    uint8_t *out[4];
+    for (int i = 0; i < 4; i++) {
+        out[i] = lend(rooms[i], NULL, 0, 1);
+        zakvind_written w = zakvind_write_sheet(sheet, n, out[i], rooms[i]);
+        given(7, (const uint64_t *)&w, 3);
+        const uint64_t refused = r->number ? r->number : rooms[i] < n ? ZAKVIND_OUTPUT_TOO_SHORT : 0;
+        must(w.number == refused && w.place == r->place, "the reader's refusal, then 39");
+        must(w.written == (refused ? 0 : n), "a sheet is written whole or not");
+        kept(k + i, w.written, "what is past the sheet is kept, and all where it is refused");
+        seen(k + i, w.written);
+        must(refused || memcmp(out[i], out[0], n) == 0, "the same bytes whatever the room");
+        speak(5, w.number, w.place, 0, 0, 0, 0);
+        done_from(k + i + 1);
+    }
+    if (r->number)
+        return;
+    uint8_t *again = lend(n, NULL, 0, 1);
+    zakvind_sheet s = zakvind_read_sheet(out[0], n);
+    zakvind_written w = zakvind_write_sheet(out[0], n, again, n);
+    must(memcmp(&s, r, sizeof s) == 0, "what is written is read, with the same sections");
+    must(w.number == 0 && memcmp(again, out[0], n) == 0, "written once more it is the same");
+}
+
 static void call_sheet(input *in)
 {
     size_t room = number(in, 2), n = in->left;
@@ -197,6 +226,8 @@ static void call_sheet(input *in)
     seen(2, w.written);
     must(w.number == 39 || (w.written > t.written && memcmp(words, out, t.written) == 0), "an explanation begins as its report");
     speak(1, r.number, r.place, 0, 0, 0, 0);
+    write_anew(sheet, n, room, &r);
+    kept(0, 0, "the sheet is kept");
 }
 
 static void call_build(input *in)
@@ -300,7 +331,7 @@ int LLVMFuzzerTestOneInput(const uint8_t *data, size_t size)
     case 3: call_append(&in); break;
     default: break;
     }
-    done();
+    done_from(0);
     return 0;
 }
 

@@ -2,6 +2,8 @@
 //! the static library isn't there. Nothing of it is proved, and it is not to be used for anything else.
 #![allow(clippy::missing_safety_doc, clippy::too_many_arguments, dead_code)]
 
+#[path = "src/canonical.rs"]
+mod canonical;
 #[path = "src/layout.rs"]
 mod layout;
 #[path = "src/reading.rs"]
@@ -125,6 +127,11 @@ fn written(text: &[u8], out: &mut [u8]) -> Numbers<2> {
     let Some(part) = out.get_mut(..text.len()) else { return Numbers([39, 0]) };
     part.copy_from_slice(text);
     Numbers([0, text.len() as u64])
+}
+
+#[no_mangle]
+pub unsafe extern "C" fn zakvind_write_sheet(sheet: *const u8, n: usize, out: *mut u8, m: usize) -> Numbers<3> {
+    Numbers(reading().write(lent(sheet, n), lent_mut(out, m)))
 }
 
 #[no_mangle]

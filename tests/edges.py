@@ -25,8 +25,10 @@ sys.path[:0] = [str(root / "format"), str(root / "tests")]
 import make_build_cases as builds  # noqa: E402
 import make_read_cases as reads  # noqa: E402
 import make_report_cases as reports  # noqa: E402
+import make_write_cases as writes  # noqa: E402
+from canonical import canonical, meaning  # noqa: E402
 from generate import EXAMPLE, Accepted  # noqa: E402
-from layout import SECTIONS  # noqa: E402
+from layout import SECTIONS, single  # noqa: E402
 from picture import picture  # noqa: E402
 from printed import explained  # noqa: E402
 from text import BadText, make, show  # noqa: E402
@@ -45,7 +47,9 @@ try)
     [ -z "${TRIES-}" ] || echo x >>"$TRIES"
     printf 'FAIL: the native program at -O3 ended, but did not write what is expected\\nwhat the run said:\\nthe program exited with status 0\\n'
     mapfile -t words < <(cat crates/zakvind/args 2>/dev/null)
-    "${TRIED-$PROGRAM}" "${words[@]}" <crates/zakvind/stdin
+    # bytes come as numbers, as the script has the copy write them
+    "${TRIED-$PROGRAM}" "${words[@]}" <crates/zakvind/stdin |
+        if [ "${words[0]-}" = canonical ]; then od -An -v -tu1 -w1 | tr -d ' '; else cat; fi
     printf '\\nFAIL: another run\\nthe program exited with status 0\\nsheet 9 9\\n'
     exit 1
     ;;
@@ -141,7 +145,8 @@ def test_program_verbs():
         data = sheet(name)
         assert program(data, "explain") == explained(data).encode()
         assert program(data, "explain").startswith(program(data)) and program(data)
-        for words in ([""], ["explai"], ["explainx"], ["x" * 100], ["explain", "explain"]):
+        assert program(data, "canonical") == (b"" if Walked(data).refusal else canonical(data))
+        for words in ([""], ["explai"], ["explainx"], ["canonica"], ["canonicalx"], ["x" * 100], ["explain", "explain"], ["canonical", ""]):
             assert program(data, *words) == b"", words
 
 
@@ -201,8 +206,13 @@ def test_options():
     for word in ("--explian", "-x", "--explain=1", "--picture1"):
         usage(Run(box, usable, word), "no option", word)
     usage(Run(box, "--show", "--explain", usable), "--show", "--explain")
-    for word in ("--make", "--picture"):
+    for word in ("--make", "--picture", "--canonical"):
         usage(Run(box, word, usable, usable), "one file")
+    for names in ((), (usable,), (usable, usable, usable), ("-",)):
+        usage(Run(box, "--same", *names), "two files")
+    for words in (("--canonical", "--explain"), ("--same", "--canonical"), ("--make", "--same"), ("--same", "--show")):
+        usage(Run(box, *words, usable, usable), *words)
+    usage(Run(box, "--same", "-", "-"), "only once")
     one_line(Run(box, "--", "--explain"), "--explain: there is no such file")
     for word in ("-h", "--help"):
         run = Run(box, word)
@@ -212,7 +222,7 @@ def test_options():
 def test_unreadable():
     one_line(Run(box, room / "none"), "no such file")
     one_line(Run(box, SHEETS), "folder")
-    for verb in ("--show", "--make", "--picture", "--explain"):
+    for verb in ("--show", "--make", "--picture", "--explain", "--canonical"):
         one_line(Run(box, verb, room / "none"), "no such file")
     file = pathlib.Path(tempfile.mkdtemp(dir=room)) / "kept.sheet"
     file.parent.chmod(0o755)
@@ -233,12 +243,14 @@ def test_output_lost():
         with open("/dev/full", "wb") as full:
             run = Run(box, *words, stdout=full)
         assert run.status == 2 and run.err.count("\n") == 1 and "standard output" in run.err, run
-    for words in (("--picture", SHEETS / "usable.sheet"), ("--make", text), ("--help",), (SHEETS / "usable.sheet", SHEETS / "usable.sheet")):
+    usable = SHEETS / "usable.sheet"
+    for words in (("--picture", usable), ("--make", text), ("--help",), (usable, usable), ("--canonical", usable), ("--same", usable, usable)):
         with open("/dev/full", "wb") as full:
             run = Run(box, *words, stdout=full)
         assert run.status == 2 and run.err.count("\n") == 1 and "standard output" in run.err, run
-    run = Run(box, SHEETS / "usable.sheet", stdout=None, preexec_fn=lambda: os.close(1))
-    assert run.status == 2 and run.err.count("\n") == 1, run
+    for words in ((usable,), ("--canonical", usable), ("--same", usable, usable)):
+        run = Run(box, *words, stdout=None, preexec_fn=lambda: os.close(1))
+        assert run.status == 2 and run.err.count("\n") == 1, run
 
 
 NAMES = ("-n.sheet", "--", "a b.sheet", "a\nb.sheet", "*.sheet", "$(x).sheet", "'\".sheet", "-", " ", "\\n", "a:b", "\udcff.sheet")
@@ -293,11 +305,13 @@ def test_terminal():
     run = on_terminal(SHEETS / "damaged.sheet", stdout=True)
     assert run.out.startswith(program(sheet("damaged"), "explain")) and b"byte 1998: slot 26, transform 6" in run.out, run
     assert Run(box, SHEETS / "rebuilt.sheet").out == program(sheet("rebuilt"))
-    for words in ((), ("-",), ("--show",), ("--make",)):
+    for words in ((), ("-",), ("--show",), ("--make",), ("--canonical",), ("--same", "-", SHEETS / "usable.sheet")):
         usage(on_terminal(*words, stdin=True), "terminal")
     text = room / "terminal.txt"
     text.write_text(EXAMPLE)
     one_line(on_terminal("--make", text, stdout=True), "--make writes bytes")
+    one_line(on_terminal("--canonical", SHEETS / "usable.sheet", stdout=True), "--canonical writes bytes")
+    assert on_terminal("--same", SHEETS / "usable.sheet", SHEETS / "usable.sheet", stdout=True).out == b"same\n"
 
 
 # ---- first runs
@@ -435,6 +449,173 @@ def test_real_try():
     run = Run(own, "--explain", file, env=environment(path=f"{room}/real:{os.environ['PATH']}"))
     assert run.status == 0 and run.out == program(reports.largest(), "explain") and "answers the same" in run.err, run
     print(f"edges: a first answer by the real `rt try` took {time.monotonic() - began:.1f} s")
+    shutil.rmtree(own / "target")
+    data = writes.some_sheet(random.Random(14), writes.LIMITS).data()
+    run = Run(own, "--canonical", env=environment(path=f"{room}/real:{os.environ['PATH']}"), input=data)
+    assert run.status == 0 and run.out == canonical(data) and "answers the same" in run.err, run
+
+
+# ---- canonical sheets
+
+
+def refused_line(run, status, *words):
+    """Nothing printed, and for each refused sheet one line of these words."""
+    lines = run.err.splitlines()
+    assert run.status == status and not run.out and len(lines) == len(words) and all(w in line for w, line in zip(words, lines)), run
+
+
+def refused_sheets():
+    """A sheet of each refusal, and its words."""
+    whole = sheet("usable")
+    return (
+        (put(whole, 0, 1, 2), "refused 1: version not 1, byte 0: version is 2, may be 1"),
+        (b"", "refused 2: sheet ends early, byte 0: version has 1 byte, of which 0 bytes are there"),
+        (whole[:20], "refused 2: sheet ends early, byte 15: buffer 0, size has 8 bytes, of which 5 bytes are there"),
+        (whole + b"\0", "refused 3: bytes after the sheet, byte 223: 1 byte is after the sheet's end"),
+        (reads.at_limit(1, 257), "refused 4: count above its limit, byte 13: count of buffers is 257, may be 0 to 256"),
+        (put(whole, 23, 1, 9), "refused 5: value outside its field, byte 23: buffer 0, marks is 9, may be 0 to 3"),
+    )
+
+
+def test_canonical():
+    choose = random.Random(12)
+    for name in STATUS:
+        run = Run(box, "--canonical", SHEETS / f"{name}.sheet")
+        if name == "damaged":
+            refused_line(run, 1, f"{name}.sheet: refused 2: sheet ends early, byte 1998: slot 26, transform 6")
+        else:
+            assert run.status == 0 and run.out == canonical(sheet(name)) and not run.err, run
+    largest = writes.some_sheet(choose, writes.LIMITS).data()
+    for data in (*(random_sheet(choose) for _ in range(20)), largest):
+        for words in ((), ("-",)):
+            run = Run(box, "--canonical", *words, input=data)
+            assert run.status == 0 and run.out == canonical(data) and not run.err, run
+        assert Run(box, "--canonical", input=run.out).out == run.out
+    for data, words in refused_sheets():
+        refused_line(Run(box, "--canonical", input=data), 1, "standard input: " + words)
+    # no part of a longer input is taken for a sheet
+    for more in (1, 65_536 - len(largest), 65_537 - len(largest), 2_000_000):
+        refused_line(Run(box, "--canonical", input=largest + bytes(more)), 1, "refused 3: bytes after the sheet, byte 56415")
+    with open("/dev/zero", "rb") as zeros:
+        refused_line(Run(box, "--canonical", stdin=zeros), 1, "refused 1")
+    lacking = environment(path=str(tools(room / "plain")))
+    refused_line(Run(box, "--canonical", input=sheet("damaged"), env=lacking), 1, "standard input: refused 2: sheet ends early, byte 1998")
+    assert Run(box, "--canonical", SHEETS / "usable.sheet", env=lacking).out == canonical(sheet("usable"))
+    one_line(Run(box, "--canonical", SHEETS), "folder")
+    one_line(Run(box, "--canonical", stdin=None, preexec_fn=lambda: os.close(0)), "cannot be read")
+
+
+def same(a, b, **how):
+    """What --same says of two sheets in files, the first of which has an odd name."""
+    folder = pathlib.Path(tempfile.mkdtemp(dir=room))
+    (folder / "-a\nb.sheet").write_bytes(a)
+    (folder / "b.sheet").write_bytes(b)
+    return Run(how.pop("box", box), "--same", "./-a\nb.sheet", "b.sheet", cwd=folder, **how)
+
+
+def test_same():
+    choose = random.Random(13)
+    some = [*writes.random_pairs(choose)][:60] + [*writes.order_pairs(choose)][:30] + [*writes.nan_pairs()][::5] + [*writes.draw_pairs()][::3]
+    told = [0, 0]
+    with concurrent.futures.ThreadPoolExecutor(2) as pool:
+        for (a, b), run in zip(some, pool.map(lambda pair: same(*pair), some)):
+            alike = meaning(a) == meaning(b)
+            told[alike] += 1
+            assert run.status == 1 - alike and run.out == (b"same\n" if alike else b"different\n") and not run.err, (a, b, run)
+    assert min(told) > 20, told
+    usable, damaged = SHEETS / "usable.sheet", SHEETS / "damaged.sheet"
+    for words in ((usable, usable), (usable, "-"), ("-", usable), ("--", "-", usable)):
+        run = Run(box, "--same", *words, input=sheet("usable"))
+        assert run.status == 0 and run.out == b"same\n" and not run.err, run
+    run = Run(box, usable, "--same", "-", input=sheet("collection"))
+    assert run.status == 1 and run.out == b"different\n" and not run.err, run
+    for data, words in refused_sheets():
+        refused_line(Run(box, "--same", usable, "-", input=data), 2, "standard input: " + words)
+        refused_line(Run(box, "--same", "-", usable, input=data), 2, "standard input: " + words)
+        # two that are refused are not the same, whatever their bytes
+        refused_line(Run(box, "--same", "-", damaged, input=data), 2, "standard input: " + words, "damaged.sheet: refused 2")
+    refused_line(Run(box, "--same", damaged, damaged), 2, "refused 2", "refused 2")
+    one_line(Run(box, "--same", usable, room / "none"), "no such file")
+    one_line(Run(box, "--same", room / "none", usable), "no such file")
+    refused_line(Run(box, "--same", SHEETS, room / "none"), 2, "folder", "no such file")
+    refused_line(Run(box, "--same", room / "none", damaged), 2, "no such file", "refused 2")
+
+
+def test_same_by_hand():
+    """Leftovers and the order across Blases don't count, what is used and the order within a Blas does."""
+    tables = reads.rich()
+    whole = reads.sheet(tables)
+
+    def with_declared(*order):
+        return reads.sheet([*tables[:2], [tables[2][i] for i in order], *tables[3:]])
+
+    def leftovers(data):
+        for t in Walked(data).tables:
+            for r in t.records:
+                for f, at, name in single(t.section.fields):
+                    if name in r.unused:
+                        data = put(data, r.place + at, f.width, ~r.values[name])
+        return data
+
+    # rich has Blases 0, 1, 0
+    for other, status in (
+        (leftovers(whole), 0),
+        (leftovers(with_declared(1, 0, 2)), 0),
+        (with_declared(0, 2, 1), 0),
+        (with_declared(2, 1, 0), 1),
+        (put(leftovers(whole), 15, 1, whole[15] ^ 1), 1),
+    ):
+        run = same(whole, other)
+        assert other != whole and run.status == status and run.out == (b"different\n" if status else b"same\n") and not run.err, run
+
+
+def test_first_canonical():
+    """Before the proofs, and what becomes of that answer."""
+    usable, collection, damaged = (SHEETS / f"{n}.sheet" for n in ("usable", "collection", "damaged"))
+    for words, status, out in (
+        (("--canonical", collection), 0, canonical(sheet("collection"))),
+        (("--canonical", damaged), 1, b""),
+        (("--same", usable, usable), 0, b"same\n"),
+        (("--same", usable, collection), 1, b"different\n"),
+        (("--same", usable, damaged), 2, b""),
+    ):
+        own = checkout()
+        first = Run(own, *words)
+        assert first.status == status and first.out == out and "before their proofs" in first.err and "answers the same" in first.err, first
+        later = Run(own, *words)
+        assert later.status == status and later.out == out and later.err.count("\n") == (damaged in words), later
+        # no answer before the proofs: the proved one is given
+        run = Run(checkout(), *words, env=environment(TRY_FAILS=1))
+        assert run.status == status and run.out == out and "no answer before the proofs" in run.err, run
+        run = Run(checkout(), *words, env=environment(CHECK_FAILS=1))
+        assert run.status == 2 and "could not be proved" in run.err, run
+    # bytes that the proved program does not confirm are not followed by others
+    liar = room / "other_bytes"
+    liar.write_text("#!/bin/sh\nhead -c $(wc -c <crates/zakvind/stdin) /dev/zero\n")
+    liar.chmod(0o755)
+    run = Run(checkout(), "--canonical", usable, env=environment(TRIED=liar))
+    assert run.status == 2 and run.out == bytes(len(sheet("usable"))) and "are not its answer" in run.err, run
+    run = Run(checkout(), "--same", usable, usable, env=environment(TRIED=liar))
+    assert run.status == 2 and run.out == b"same\n" * 2 and "answers otherwise" in run.err, run
+    # a refusal that it does not confirm
+    refuses = room / "refuses"
+    refuses.write_text("#!/bin/sh\n[ $1 = canonical ] || printf 'sheet 2 0\\nrefused 2: sheet ends early, byte 0\\n'\n")
+    refuses.chmod(0o755)
+    for words, out in ((("--canonical", usable), canonical(sheet("usable"))), (("--same", usable, usable), b"same\n")):
+        run = Run(checkout(), *words, env=environment(TRIED=refuses))
+        assert run.status == 2 and run.out == out and "answers otherwise, and this is its answer" in run.err, run
+
+
+def test_canonical_cut_short():
+    """Fewer bytes than the sheet has, more, or none with an answer that refuses no sheet: no answer."""
+    cut = room / "cut_bytes"
+    usable = SHEETS / "usable.sheet"
+    for text in ("true", "head -c 222 /dev/zero", "head -c 224 /dev/zero", "[ $1 = canonical ] || printf 'build 6 0 0 0 0 0\\nrefused 6: id\\n'", "echo x"):
+        cut.write_text(f"#!/bin/sh\n{text}\n")
+        cut.chmod(0o755)
+        for words in (("--canonical", usable), ("--same", usable, usable)):
+            run = Run(checkout(), *words, env=environment(PROGRAM=cut, TRY_FAILS=1))
+            assert run.status == 2 and not run.out and "no whole answer" in run.err, (text, run)
 
 
 # ---- words that name the field and the id

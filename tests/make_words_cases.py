@@ -22,7 +22,7 @@ def cases():
             yield 3, number, 11, kind, 12, 13, 14
     rng = random.Random(27)
     for _ in range(300):
-        call = rng.randrange(1, 5)
+        call = rng.randrange(1, 6)
         yield call, rng.choice(CALLS[call]), *(rng.choice((rng.randrange(5), rng.randrange(U64 + 1))) for _ in range(5))
 
 

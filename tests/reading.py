@@ -5,9 +5,9 @@ import sys
 
 sys.path.insert(0, str(pathlib.Path(__file__).resolve().parent.parent / "format"))
 
-from layout import LIMITS, NONE, SECTIONS, SIZES, single  # noqa: E402, F401
+from layout import HEAD, LIMITS, NONE, SECTIONS, SIZES, single  # noqa: E402, F401
 from refusals import CAUSES  # noqa: E402, F401
-from walk import WHOLE, Record, Walked, judged  # noqa: E402
+from walk import WHOLE, Record, Walked, is_used, judged  # noqa: E402, F401
 
 
 def read(data):

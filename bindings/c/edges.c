@@ -1,5 +1,5 @@
-/* The header against the library: records packed and unpacked, the room of a build, empty tables, words, a refused append, and how
- * much stack each call uses, with the largest tables and sheet. Every answer is held against what it must be. */
+/* The header against the library: records packed and unpacked, the room of a build, empty tables, a sheet written anew, words, a
+ * refused append, and how much stack each call uses, with the largest tables and sheet. Every answer is held against what it must be. */
 #define _GNU_SOURCE
 #include <zakvind.h>
 
@@ -208,7 +208,61 @@ static void nothing(void)
                                                ZAKVIND_NONE(uint32_t), 0, ZAKVIND_NONE(uint16_t), 0);
     must(s.number == 0 && indices.next_acceleration_structure_build_command_index == 5, "a submission of nothing");
     must(zakvind_read_sheet(none, 0).number == ZAKVIND_TRUNCATED, "a sheet of nothing");
+    must(zakvind_write_sheet(none, 0, none, 0).number == ZAKVIND_TRUNCATED, "a sheet of nothing written");
+    must(zakvind_write_sheet(sheet, sizeof sheet, none, 0).number == ZAKVIND_OUTPUT_TOO_SHORT, "a sheet without room");
     must(zakvind_report(none, 0, none, 0).number == ZAKVIND_OUTPUT_TOO_SHORT, "a text without room");
+}
+
+/* ---- a sheet written anew */
+
+static uint8_t anew[ZAKVIND_LONGEST_SHEET + 8], again[ZAKVIND_LONGEST_SHEET];
+
+static int all(const uint8_t *bytes, size_t n, uint8_t value)
+{
+    while (n--)
+        if (bytes[n] != value)
+            return 0;
+    return 1;
+}
+
+static void written(void)
+{
+    const size_t n = sizeof sheet;
+    uint8_t *last = sheet + n - 3;
+    memset(anew, 0x5a, sizeof anew);
+    zakvind_written w = zakvind_write_sheet(sheet, n, anew, n - 1);
+    must(w.number == ZAKVIND_OUTPUT_TOO_SHORT && w.place == 0 && w.written == 0, "a sheet with a byte less of room");
+    must(all(anew, sizeof anew, 0x5a), "nothing is written without room");
+    last[0] = 5;
+    w = zakvind_write_sheet(sheet, n, anew, 0);
+    must(w.number == ZAKVIND_INVALID_VALUE && w.place == n - 3 && w.written == 0, "the reader's refusal comes first");
+    w = zakvind_write_sheet(sheet, n, anew, sizeof anew);
+    must(w.number == ZAKVIND_INVALID_VALUE && all(anew, sizeof anew, 0x5a), "nothing is written of a refused sheet");
+    last[0] = 2;
+    w = zakvind_write_sheet(sheet, n, anew, sizeof anew);
+    must(w.number == 0 && w.place == 0 && w.written == n, "a sheet written");
+    must(all(anew + n, sizeof anew - n, 0x5a), "what is past the sheet is kept");
+    must(memcmp(anew, sheet, n) != 0, "this one has another order and leftovers");
+    const zakvind_sheet before = zakvind_read_sheet(sheet, n), after = zakvind_read_sheet(anew, n);
+    must(memcmp(&before, &after, sizeof before) == 0, "what is written is read, and has the same sections");
+    const uint8_t *d = anew + after.sections[2].start;
+    for (size_t i = 1; i < ZAKVIND_MOST_DECLARED; i++, d += ZAKVIND_DECLARED_BYTES)
+        must(zakvind_unpack_declared(d).blas <= zakvind_unpack_declared(d + ZAKVIND_DECLARED_BYTES).blas, "declared geometries by Blas");
+    for (size_t i = 0; i < ZAKVIND_MOST_SLOTS; i++) {
+        const uint8_t *slot = anew + after.sections[7].start + i * ZAKVIND_SLOT_BYTES;
+        must(slot[0] || all(slot, ZAKVIND_SLOT_BYTES, 0), "an absent slot is zero");
+    }
+    w = zakvind_write_sheet(anew, n, again, n);
+    must(w.number == 0 && memcmp(again, anew, n) == 0, "written once more it is the same");
+    /* an absent slot's leftovers count for nothing, a present one's bytes do */
+    sheet[before.sections[7].start + 7] ^= 1;
+    w = zakvind_write_sheet(sheet, n, again, n);
+    must(w.number == 0 && memcmp(again, anew, n) == 0, "another leftover is written the same");
+    sheet[before.sections[7].start + 7] ^= 1;
+    sheet[before.sections[7].start + ZAKVIND_SLOT_BYTES + 7] ^= 1;
+    w = zakvind_write_sheet(sheet, n, again, n);
+    must(w.number == 0 && memcmp(again, anew, n) != 0, "another bit that is used is written otherwise");
+    sheet[before.sections[7].start + ZAKVIND_SLOT_BYTES + 7] ^= 1;
 }
 
 /* ---- a refused append */
@@ -243,7 +297,10 @@ static void words(void)
     must(told.number == ZAKVIND_OUTPUT_TOO_SHORT, "words without room");
     told = zakvind_words(ZAKVIND_CALL_SHEET, 0, 0, 0, 0, 0, 0, text, sizeof text);
     must(told.written == 19 && memcmp(text, "nothing is refused\n", 19) == 0, "the words of nothing");
-    for (uint64_t call = 0; call < 6; call++)
+    const char writes[] = "refused 39: lent output too short\n";
+    told = zakvind_words(ZAKVIND_CALL_WRITE, ZAKVIND_OUTPUT_TOO_SHORT, 0, 0, 0, 0, 0, text, sizeof text);
+    must(told.written == sizeof writes - 1 && memcmp(text, writes, sizeof writes - 1) == 0, "the words of a sheet without room");
+    for (uint64_t call = 0; call < 7; call++)
         for (uint64_t number = 0; number < 50; number++)
             for (uint64_t e = 0; e < 6; e++) {
                 const uint64_t top = UINT64_MAX;
@@ -257,6 +314,7 @@ static void words(void)
 enum { STACK = 1 << 20 };
 
 static void reads(void) { must(zakvind_read_sheet(sheet, sizeof sheet).number == 0, "the longest sheet"); }
+static void writes(void) { must(zakvind_write_sheet(sheet, sizeof sheet, anew, sizeof anew).number == 0, "the longest sheet written"); }
 static void reports(void) { told = zakvind_report(sheet, sizeof sheet, text, sizeof text); }
 
 static void submits(void)
@@ -310,6 +368,7 @@ static void stacks(void)
         size_t most;
     } calls[] = {
         {"read_sheet", reads, ZAKVIND_STACK_BYTES},
+        {"write_sheet", writes, ZAKVIND_STACK_BYTES},
         {"build", build, ZAKVIND_STACK_BYTES},
         {"submit", submits, ZAKVIND_STACK_BYTES},
         {"append_instance", appends, ZAKVIND_STACK_BYTES},
@@ -336,9 +395,10 @@ int main(void)
     make_sheet();
     room_fits();
     nothing();
+    written();
     refused_append();
     words();
     stacks();
-    puts("C: records, room, empty tables, appends and stack are as is said");
+    puts("C: records, room, empty tables, written sheets, appends and stack are as is said");
     return 0;
 }

@@ -162,7 +162,7 @@ pub fn read(text: &str) -> Result<Case, String> {
 pub fn difference(rust: &[Part], other: &[Part]) -> String {
     let mut out = String::new();
     for (a, b) in rust.iter().zip(other) {
-        let answer = ["read", "report", "build", "submit", "append"].contains(&a.name);
+        let answer = ["read", "report", "write", "build", "submit", "append"].contains(&a.name);
         if answer || a != b {
             let mark = if a == b { " " } else { "*" };
             if answer || a.values.len() <= 8 {

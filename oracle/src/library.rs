@@ -74,4 +74,9 @@ impl Side for Library {
         let a = raw::report(sheet, out);
         [a.number, a.written]
     }
+
+    fn write(&mut self, sheet: &[u8], out: &mut [u8]) -> [u64; 3] {
+        let a = raw::write_sheet(sheet, out);
+        [a.number, a.place, a.written]
+    }
 }

@@ -1,4 +1,5 @@
 //! Compares Zakvind with the published Rust. See README.md.
+mod canonical;
 mod case_file;
 mod compare;
 mod corpus;

@@ -19,7 +19,7 @@ pub struct Lent<'a> {
     pub dependencies: &'a mut [u16],
 }
 
-/// The five exported functions; each answer is its fields in order.
+/// The exported functions, words aside; each answer is its fields in order.
 pub trait Side {
     /// number, place, version, alignment, counter, then start and count of sections 1 to 9
     fn read_sheet(&mut self, sheet: &[u8]) -> [u64; 23];
@@ -32,6 +32,17 @@ pub trait Side {
         -> [u64; 7];
     /// number, bytes written
     fn report(&mut self, sheet: &[u8], out: &mut [u8]) -> [u64; 2];
+    /// number, place, bytes written; of a side that has no sheet to write by a second reading of the request
+    fn write(&mut self, sheet: &[u8], out: &mut [u8]) -> [u64; 3] {
+        let [number, place, ..] = self.read_sheet(sheet);
+        if number != 0 {
+            return [number, place, 0];
+        }
+        let bytes = crate::canonical::canonical(sheet);
+        let Some(part) = out.get_mut(..bytes.len()) else { return [39, 0, 0] };
+        part.copy_from_slice(&bytes);
+        [0, 0, bytes.len() as u64]
+    }
 }
 
 /// Elements past what is lent, which no call may touch.
@@ -56,7 +67,7 @@ fn pattern_u64(n: usize) -> Vec<u64> {
 
 #[derive(Clone, Debug, PartialEq, Eq)]
 pub enum Case {
-    /// `room` is how much longer than the text (or shorter) the output of the text is
+    /// `room` is how much longer than the text (or shorter) the output of the text is, and than the sheet where it is written anew
     Sheet {
         bytes: Vec<u8>,
         room: i64,
@@ -116,8 +127,17 @@ impl Case {
                 let n = (text as i64 + room).max(0) as usize;
                 let mut out = pattern_u8(n);
                 let report = side.report(&lent, &mut out[..n]);
-                let kept = [u64::from(lent == *bytes)];
-                vec![part("read", &read), part("report", &report), part("text", &out), part("inputs kept", &kept)]
+                let n = (bytes.len() as i64 + room).max(0) as usize;
+                let mut anew = pattern_u8(n);
+                let write = side.write(&lent, &mut anew[..n]);
+                vec![
+                    part("read", &read),
+                    part("report", &report),
+                    part("text", &out),
+                    part("write", &write),
+                    part("anew", &anew),
+                    part("inputs kept", &[u64::from(lent == *bytes)]),
+                ]
             }
             Case::Build { alignment, tables, rooms } => {
                 let lent = tables.clone();

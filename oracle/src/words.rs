@@ -62,18 +62,19 @@ fn place(number: u64, sort: u64) -> &'static [&'static str] {
     }
 }
 
-/// Whether a call can refuse with a number: 1 reads a sheet, 2 builds, 3 submits, 4 appends an instance.
+/// Whether a call can refuse with a number: 1 reads a sheet, 2 builds, 3 submits, 4 appends an instance, 5 writes a sheet.
 fn refuses_with(call: u64, number: u64) -> bool {
     match call {
         1 => (1..=5).contains(&number),
         2 => matches!(number, 4..=6 | 10..=39),
         3 => matches!(number, 4..=6 | 21 | 39..=44),
         4 => matches!(number, 6 | 34 | 35 | 39),
+        5 => matches!(number, 1..=5 | 39),
         _ => false,
     }
 }
 
-/// A refusal of a call. E of a sheet is its place, of a submission the action and its kind.
+/// A refusal of a call. E of a sheet, read or written, is its place, of a submission the action and its kind.
 pub fn words(call: u64, number: u64, e: [u64; 2], f: [u64; 3]) -> String {
     if number == 0 {
         return "nothing is refused\n".into();
@@ -83,6 +84,7 @@ pub fn words(call: u64, number: u64, e: [u64; 2], f: [u64; 3]) -> String {
     let mut line = format!("refused {number}: {cause}");
     match call {
         1 => line += &format!(", byte {}", e[0]),
+        5 if number != 39 => line += &format!(", byte {}", e[0]),
         2 => {
             line.extend(place(number, f[0]).iter().zip(&e).map(item));
             let sort = match (number, f[0]) {

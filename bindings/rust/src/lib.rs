@@ -58,7 +58,9 @@ pub use records::{
     BlasGeometrySizeDescriptor, BlasId, Buffer, BufferId, IDENTITY, IndexFormat, Kind, Reader, Record, Tlas, TlasId, TlasInstance,
     TlasPackage, USE_TRANSFORM, table,
 };
-pub use sheet::{OutputTooShort, Sheet, SheetError, SheetRefused, explain, read_sheet, report};
+pub use sheet::{
+    OutputTooShort, Sheet, SheetError, SheetRefused, WriteRefused, canonical_sheet, explain, read_sheet, report, write_sheet,
+};
 pub use submission::{
     Actions, DEPENDENCY_ROOM, Lent, SubmitRefused, ValidateAsActionsError, validate_acceleration_structure_actions,
 };

@@ -92,11 +92,24 @@ pub struct Reported {
     pub written: u64,
 }
 
+/// `zakvind_written`: what writing a sheet came to.
+#[repr(C)]
+#[derive(Clone, Copy, Debug, PartialEq, Eq)]
+pub struct Written {
+    /// 0, or why it is refused
+    pub number: u64,
+    /// of the refused byte; 0 for 39
+    pub place: u64,
+    /// bytes of it
+    pub written: u64,
+}
+
 mod ffi {
-    use super::{Appended, Built, CommandIndices, Reported, Sheet, Submitted};
+    use super::{Appended, Built, CommandIndices, Reported, Sheet, Submitted, Written};
 
     unsafe extern "C" {
         pub fn zakvind_read_sheet(sheet: *const u8, sheet_len: usize) -> Sheet;
+        pub fn zakvind_write_sheet(sheet: *const u8, sheet_len: usize, out: *mut u8, out_len: usize) -> Written;
         pub fn zakvind_build(
             alignment: u32,
             buffers: *const u8,
@@ -178,6 +191,11 @@ mod ffi {
 /// `zakvind_read_sheet`.
 pub fn read_sheet(sheet: &[u8]) -> Sheet {
     unsafe { ffi::zakvind_read_sheet(sheet.as_ptr(), sheet.len()) }
+}
+
+/// `zakvind_write_sheet`.
+pub fn write_sheet(sheet: &[u8], out: &mut [u8]) -> Written {
+    unsafe { ffi::zakvind_write_sheet(sheet.as_ptr(), sheet.len(), out.as_mut_ptr(), out.len()) }
 }
 
 /// `zakvind_build`; `tables` are sections 1 to 8.

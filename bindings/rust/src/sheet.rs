@@ -63,6 +63,13 @@ pub struct SheetRefused {
     pub misfit: Option<Box<Misfit>>,
 }
 
+impl SheetRefused {
+    fn of(sheet: &[u8], number: u64, place: u64) -> SheetRefused {
+        let misfit = usize::try_from(place).ok().and_then(|place| Walk::new(sheet, place).misfit(number));
+        SheetRefused { error: SheetError::from_number(number), place, misfit: misfit.map(Box::new) }
+    }
+}
+
 impl fmt::Display for SheetRefused {
     fn fmt(&self, f: &mut fmt::Formatter) -> fmt::Result {
         words::write(f, Call::Sheet, self.error.number(), [self.place, 0], [0, 0, 0])?;
@@ -112,8 +119,54 @@ pub fn read_sheet(sheet: &[u8]) -> Result<Sheet<'_>, SheetRefused> {
         // the sections of a sheet that is read lie in it
         return accepted().ok_or(SheetRefused { error: SheetError::Other(0), place: 0, misfit: None });
     }
-    let misfit = usize::try_from(a.place).ok().and_then(|place| Walk::new(sheet, place).misfit(a.number));
-    Err(SheetRefused { error: SheetError::from_number(a.number), place: a.place, misfit: misfit.map(Box::new) })
+    Err(SheetRefused::of(sheet, a.number, a.place))
+}
+
+/// Why a sheet is not written; nothing was.
+#[derive(Clone, Debug, PartialEq, Eq)]
+#[non_exhaustive]
+pub enum WriteRefused {
+    /// the sheet is not read
+    Sheet(SheetRefused),
+    /// 39: lent output too short
+    OutputTooShort,
+}
+
+impl fmt::Display for WriteRefused {
+    fn fmt(&self, f: &mut fmt::Formatter) -> fmt::Result {
+        match self {
+            WriteRefused::Sheet(refused) => refused.fmt(f),
+            WriteRefused::OutputTooShort => words::write(f, Call::Write, 39, [0, 0], [0, 0, 0]),
+        }
+    }
+}
+
+impl std::error::Error for WriteRefused {
+    fn source(&self) -> Option<&(dyn std::error::Error + 'static)> {
+        match self {
+            WriteRefused::Sheet(refused) => Some(refused),
+            WriteRefused::OutputTooShort => None,
+        }
+    }
+}
+
+/// Writes a sheet anew: unused fields zero, declared geometries by Blas number and those of one Blas in their order. It has as many
+/// bytes as before, and that many are answered. Two sheets come to the same bytes exactly when they mean the same.
+pub fn write_sheet(sheet: &[u8], out: &mut [u8]) -> Result<usize, WriteRefused> {
+    let a = raw::write_sheet(sheet, out);
+    match a.number {
+        0 => usize::try_from(a.written).map_err(|_| WriteRefused::OutputTooShort),
+        39 => Err(WriteRefused::OutputTooShort),
+        number => Err(WriteRefused::Sheet(SheetRefused::of(sheet, number, a.place))),
+    }
+}
+
+/// The bytes that `write_sheet` writes.
+pub fn canonical_sheet(sheet: &[u8]) -> Result<Vec<u8>, WriteRefused> {
+    let mut out = vec![0; sheet.len()];
+    let written = write_sheet(sheet, &mut out)?;
+    out.truncate(written);
+    Ok(out)
 }
 
 /// The output is too short (39); nothing was written.

@@ -8,6 +8,7 @@ pub(crate) enum Call {
     Build,
     Submission,
     Append,
+    Write,
 }
 
 impl Call {
@@ -17,6 +18,7 @@ impl Call {
             Call::Build => 2,
             Call::Submission => 3,
             Call::Append => 4,
+            Call::Write => 5,
         }
     }
 }

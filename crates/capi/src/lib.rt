@@ -4,6 +4,7 @@ use capi_answers::append_answer;
 use capi_answers::build_answer;
 use capi_answers::report_answer;
 use capi_answers::sheet_answer;
+use capi_answers::write_answer;
 use explain::explain;
 use instance::append_instance;
 use instance_bytes::instance_from;
@@ -14,26 +15,36 @@ use ray_tracing::ReportAnswer;
 use ray_tracing::SheetAnswer;
 use ray_tracing::TlasId;
 use ray_tracing::Validated;
+use ray_tracing::WriteAnswer;
 use report::report;
 use report_words::Refusal;
 use report_words::words;
 use sheet::read_sheet;
+use sheet_write::write_sheet;
 use submit::validate_acceleration_structure_actions;
 ghost use mathlib.Core.Path.{_≡_};
 ghost use Rattle.ray_tracing.specs.Reading.{readSheet};
+ghost use Rattle.ray_tracing.specs.Canonical.{WritesSheetAs};
 ghost use Rattle.ray_tracing.specs.Plan.{tablesOf, outputsOf, BuildsAs};
 ghost use Rattle.ray_tracing.specs.Instances.{instanceFrom, AppendsAs};
 ghost use Rattle.ray_tracing.specs.Submission.{buffersOf, pieceOf, Validates};
 ghost use Rattle.ray_tracing.specs.Report as Report;
 ghost use Rattle.ray_tracing.specs.Report.{PutsAs};
 ghost use Rattle.ray_tracing.specs.Explain.{explained, wordsOf};
-ghost use Rattle.ray_tracing.specs.Answers.{sheetAnswer, builtAnswer, appendAnswer, reportAnswer};
+ghost use Rattle.ray_tracing.specs.Answers.{sheetAnswer, writeAnswer, builtAnswer, appendAnswer, reportAnswer};
 
 #[no_mangle]
 pub extern "C" fn zakvind_read_sheet(sheet: &[u8]) -> SheetAnswer
     ensures { λ r. ⌜ r ≡ sheetAnswer (readSheet (now (sheet .entry))) ⌝ }
 {
     sheet_answer(read_sheet(sheet))
+}
+
+#[no_mangle]
+pub extern "C" fn zakvind_write_sheet(sheet: &[u8], out: &mut [u8]) -> WriteAnswer
+    ensures { λ r. ⌜ WritesSheetAs writeAnswer (now (sheet .entry)) (now (out .entry)) r (now (out .exit)) ⌝ }
+{
+    write_answer(write_sheet(sheet, out))
 }
 
 #[no_mangle]
@@ -149,7 +160,7 @@ pub extern "C" fn zakvind_explain(sheet: &[u8], out: &mut [u8]) -> ReportAnswer
 }
 
 // The words of a call's refusal: the call is 1 of zakvind_read_sheet (e0 its place), 2 of zakvind_build, 3 of zakvind_submit (e0 its
-// action, e1 the action's kind, 0 where it is not known) or 4 of zakvind_append_instance.
+// action, e1 the action's kind, 0 where it is not known), 4 of zakvind_append_instance or 5 of zakvind_write_sheet (e0 its place).
 #[no_mangle]
 pub extern "C" fn zakvind_words(
     call: u64,

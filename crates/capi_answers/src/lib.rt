@@ -11,15 +11,18 @@ use ray_tracing::Reported;
 use ray_tracing::Sheet;
 use ray_tracing::SheetAnswer;
 use ray_tracing::SheetRead;
+use ray_tracing::SheetWritten;
+use ray_tracing::WriteAnswer;
 use ray_tracing::Written;
 ghost use mathlib.Core.Path.{_≡_};
 ghost use Rattle.ray_tracing.specs.Causes.{readingOf};
 ghost use Rattle.ray_tracing.specs.Reading.{accepted, rejected};
+ghost use Rattle.ray_tracing.specs.Canonical.{writingOf};
 ghost use Rattle.ray_tracing.specs.Plan.{recorded, nothing-recorded, not-built, buildingOf};
 ghost use Rattle.ray_tracing.specs.Instances.{appendedOf};
 ghost use Rattle.ray_tracing.specs.Report.{reportedOf};
 ghost use Rattle.causes.specs.Figures.{causeOf};
-ghost use Rattle.ray_tracing.specs.Answers.{sheetAnswer, builtAnswer, appendAnswer, reportAnswer};
+ghost use Rattle.ray_tracing.specs.Answers.{sheetAnswer, writeAnswer, builtAnswer, appendAnswer, reportAnswer};
 
 fn sheet_accepted(x: Sheet) -> SheetAnswer
     ensures { λ r. ⌜ r ≡ sheetAnswer (accepted x) ⌝ }
@@ -87,6 +90,28 @@ pub fn sheet_answer(read: SheetRead) -> SheetAnswer
     match read {
         SheetRead::Accepted(x) => sheet_accepted(x),
         SheetRead::Refused(e, place) => sheet_refused(sheet_number(e), place as u64),
+    }
+}
+
+pub fn write_answer(written: SheetWritten) -> WriteAnswer
+    ensures { λ r. ⌜ r ≡ writeAnswer (writingOf written) ⌝ }
+{
+    match written {
+        SheetWritten::Written(n) => WriteAnswer {
+            number: 0,
+            place: 0,
+            written: n as u64,
+        },
+        SheetWritten::Refused(e, place) => WriteAnswer {
+            number: sheet_number(e),
+            place: place as u64,
+            written: 0,
+        },
+        SheetWritten::TooShort => WriteAnswer {
+            number: 39,
+            place: 0,
+            written: 0,
+        },
     }
 }
 

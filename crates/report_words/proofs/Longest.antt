@@ -27,6 +27,7 @@ use Rattle.ray_tracing.specs.Explain.{
   itemBytes,
   refusedLine,
   explanation,
+  between,
   refusesWith,
   callLine,
   noSuchCause,
@@ -145,5 +146,8 @@ words-most call n e f x y z =
     (each-within (eqb call 1) _ _ (explanation-most (of-sheet n e))
     (each-within (eqb call 2) _ _ (explanation-most (of-build e f (cause n x y z)))
     (each-within (eqb call 3) _ _ (explanation-most (of-action e f (cause n x y z)))
-    (simp length-append (omega (arith, digits-most 20 n, cause-most n, items-most []))))))
+    (each-within (eqb call 4) _ _ plain-most (each-within (between 1 5 n) _ _ (explanation-most (of-sheet n e)) plain-most)))))
     (simp length-append (omega (arith, digits-most 20 n))))
+  where
+    plain-most : length (refusedLine n []) ≤ longestExplanation
+    plain-most = simp length-append (omega (arith, digits-most 20 n, cause-most n, items-most []))

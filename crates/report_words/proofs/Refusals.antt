@@ -41,6 +41,7 @@ use Rattle.report_words.specs.Lines.{
   unbuiltPlace,
   actionPlace,
   appendPlace,
+  writePlace,
   linePlace,
 }
 
@@ -254,31 +255,52 @@ module _ (call e f x y z : ℕ) where
       go false h false i true k = rw (eqb-true n 39 k) (append-39 ∙ line-is 39 [])
       go false h false i false k = rw (i, h, k) (unknown n)
 
+  write :
+      (n : ℕ)
+      → at n (writePlace n)
+      ≡ cond (between 1 5 n || eqb n 39) (cond (between 1 5 n) (explanation (of-sheet n e)) (refusedLine n [])) (noSuchCause n)
+  unfolding explanation
+  write n = go (between 1 5 n) refl (eqb n 39) refl
+    where
+      go :
+          (a : Bool)
+          → between 1 5 n ≡ a
+          → (b : Bool)
+          → eqb n 39 ≡ b
+          → at n (cond a (n + 1) (cond b 58 1))
+          ≡ cond (a || b) (cond a (explanation (of-sheet n e)) (refusedLine n [])) (noSuchCause n)
+      go true h b i = bounded Sheet 1 5 5 n refl sheet-lines h ∙ line-is n ("byte" is e ∷ [])
+      go false h true i = rw (eqb-true n 39 i) (append-39 ∙ line-is 39 [])
+      go false h false i = unknown n
+
   -- ---- the table by call
 
   pub words-are : (n : ℕ) → at n (linePlace call n f x) ≡ wordsOf call n e f x y z
   unfolding wordsOf
-  words-are n = some (eqb n 0) _ _ (each (eqb call 1) (eqb call 2) (eqb call 3) (eqb call 4))
+  words-are n = some (eqb n 0) _ _ (each (eqb call 1) (eqb call 2) (eqb call 3) (eqb call 4) (eqb call 5))
     where
       each :
-          (a b c d : Bool)
+          (a b c d g : Bool)
           → at n
           (cond a (cond (between 1 5 n) (n + 1) 1)
-          (cond b (buildPlace n x) (cond c (actionPlace n f) (cond d (appendPlace n) 1))))
+          (cond b (buildPlace n x)
+          (cond c (actionPlace n f) (cond d (appendPlace n) (cond g (writePlace n) 1)))))
           ≡ cond
           (cond a (between 1 5 n)
           (cond b (between 4 6 n || between 10 39 n)
           (cond c (between 4 6 n || (eqb n 21 || between 39 44 n))
-          (cond d (eqb n 6 || (between 34 35 n || eqb n 39)) false))))
+          (cond d (eqb n 6 || (between 34 35 n || eqb n 39)) (cond g (between 1 5 n || eqb n 39) false)))))
           (cond a (explanation (of-sheet n e))
           (cond b (explanation (of-build e f (cause n x y z)))
-          (cond c (explanation (of-action e f (cause n x y z))) (refusedLine n []))))
+          (cond c (explanation (of-action e f (cause n x y z)))
+          (cond d (refusedLine n []) (cond (between 1 5 n) (explanation (of-sheet n e)) (refusedLine n []))))))
           (noSuchCause n)
-      each true b c d = sheet n
-      each false true c d = build n
-      each false false true d = submit n
-      each false false false true = append n
-      each false false false false = unknown n
+      each true b c d g = sheet n
+      each false true c d g = build n
+      each false false true d g = submit n
+      each false false false true g = append n
+      each false false false false true = write n
+      each false false false false false = unknown n
 
       some : (b : Bool) (p : ℕ) (t : List ℕ) → at n p ≡ t → at n (cond b 0 p) ≡ cond b (explanation nothing) t
       some true p t h = none n

@@ -108,10 +108,15 @@ actionPlace n kind =
 abbrev pub appendPlace : ℕ → ℕ
 appendPlace n = cond (between 34 35 n) (n + 22) (cond (eqb n 6) 55 (cond (eqb n 39) 58 1))
 
+-- the reader's lines, and the append's of 39
+abbrev pub writePlace : ℕ → ℕ
+writePlace n = cond (between 1 5 n) (n + 1) (cond (eqb n 39) 58 1)
+
 -- of a call's number: by the kind, which is its F, and the sort, which is its X
 abbrev pub linePlace : ℕ → ℕ → ℕ → ℕ → ℕ
 linePlace call n kind sort =
     cond (eqb n 0) 0
     (cond (eqb call 1) (cond (between 1 5 n) (n + 1) 1)
     (cond (eqb call 2) (buildPlace n sort)
-    (cond (eqb call 3) (actionPlace n kind) (cond (eqb call 4) (appendPlace n) 1))))
+    (cond (eqb call 3) (actionPlace n kind)
+    (cond (eqb call 4) (appendPlace n) (cond (eqb call 5) (writePlace n) 1)))))

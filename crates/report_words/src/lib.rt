@@ -26,10 +26,10 @@ ghost use Rattle.report_words.specs.Refused.{refusedBy, wordsIn, Refuses
 ghost use Rattle.report_words.specs.Longest.{longestExplanation};
 ghost use Rattle.report_words.specs.Lines.{numberFor, isNumber, letter, filled, pastLines, lines};
 ghost use Rattle.report_words.specs.Lines.{destroyedPlace, buildPlace, unbuiltPlace, actionPlace};
-ghost use Rattle.report_words.specs.Lines.{appendPlace, linePlace};
+ghost use Rattle.report_words.specs.Lines.{appendPlace, writePlace, linePlace};
 
-// The call that refuses, by its number (1 reads a sheet, 2 builds, 3 submits, 4 appends an instance), the refusal's number, place and
-// figures; an action is in E and its kind in F. Number 0 refuses nothing.
+// The call that refuses, by its number (1 reads a sheet, 2 builds, 3 submits, 4 appends an instance, 5 writes a sheet), the refusal's number,
+// place and figures; an action is in E and its kind in F. Number 0 refuses nothing.
 pub struct Refusal {
     pub call: u64,
     pub number: u64,
@@ -308,10 +308,17 @@ fn append_place(n: u64) -> usize
     shifted(n, 34, 35, 22, other)
 }
 
+fn write_place(n: u64) -> usize
+    ensures { λ r. ⌜ r ≡ writePlace n ⌝ }
+{
+    shifted(n, 1, 5, 1, pick(n == 39, 58, 1))
+}
+
 fn line_place(call: u64, n: u64, kind: u64, sort: u64) -> usize
     ensures { λ r. ⌜ r ≡ linePlace call n kind sort ⌝ }
 {
-    let fourth = pick(call == 4, append_place(n), 1);
+    let fifth = pick(call == 5, write_place(n), 1);
+    let fourth = pick(call == 4, append_place(n), fifth);
     let third = pick(call == 3, action_place(n, kind), fourth);
     let second = pick(call == 2, build_place(n, sort), third);
     let first = pick(call == 1, shifted(n, 1, 5, 1, 1), second);

@@ -1,9 +1,11 @@
-// zakvind [VERB]: reads a sheet from standard input and prints its lines; with the verb `explain` also what they refuse, in words. For other
-// arguments it prints nothing. Of an input that is longer than the buffer the first 65,536 bytes are read: the first 56,416 decide what is
-// printed (`report-prefix` of `report`, `explained-prefix` of `explain`).
+// zakvind [VERB]: reads a sheet from standard input and prints its lines; with the verb `explain` also what they refuse, in words; with
+// `canonical` in their place its canonical bytes. For other arguments it prints nothing. Of an input that is longer than the buffer the first
+// 65,536 bytes are read: the first 56,416 decide what is printed (`report-prefix` of `report`, `explained-prefix` of `explain`) and whether a
+// sheet is read at all (`prefix-decides` of `ray_tracing`). None has more than 56,415, so that no part of a longer input is written as one.
 use libc::STDIN_FILENO;
 use libc::STDOUT_FILENO;
 use ray_tracing::Reported;
+use ray_tracing::SheetWritten;
 
 fn print(text: &[u8], n: usize) {
     if n <= text.len() {
@@ -27,9 +29,19 @@ fn print_explained(sheet: &[u8]) {
     }
 }
 
+// Nothing for a refused sheet; a written one is never empty, and never longer than this.
+fn print_canonical(sheet: &[u8]) {
+    let mut out = io::large_buffer();
+    if let SheetWritten::Written(n) = sheet_write::write_sheet(sheet, &mut out) {
+        print(&out, n);
+    }
+}
+
 fn answer(verb: &[u8], sheet: &[u8]) {
     if check::same(verb, b"explain") {
         print_explained(sheet);
+    } else if check::same(verb, b"canonical") {
+        print_canonical(sheet);
     }
 }
 
