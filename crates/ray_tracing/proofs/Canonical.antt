@@ -19,7 +19,7 @@ use Rattle.ray_tracing.specs.declared.Sheet.{Sheet}
 use Rattle.ray_tracing.specs.Layout.{Seen, Field, layout, size}
 use Rattle.ray_tracing.specs.Reading.{fine, judgeLent, past, from, table, begin, sectionOf, sheetOf, Reading, accepted, rejected, readSheet}
 use Rattle.ray_tracing.specs.Meaning.{recordsFrom, recordsOf, declaredLists, recordMeaning, heldMeaning, sectionMeaning, Meaning, meaning}
-use Rattle.ray_tracing.specs.Canonical.{sectionBytes, headerBytes, sheetBytes, countOf, canonicalTable, canonicalTables, canonical, Writing, written, unwritten, afterReading, writeRule, writingLeaves, WritesSheet}
+use Rattle.ray_tracing.specs.Canonical.{sectionBytes, headerBytes, sheetBytes, countOf, canonicalTable, canonicalTables, canonical, Writing, wrote, unwritten, afterReading, writeRule, writingLeaves, WritesSheet}
 use Rattle.ray_tracing.specs.Writing.{endOf, sectionWith, sheetWith}
 use Rattle.ray_tracing.proofs.Each.{each, size-positive}
 use Rattle.ray_tracing.proofs.Instances.{Below}
@@ -230,22 +230,21 @@ module _ (s : List ℕ) (x : Sheet) (e : readSheet s ≡ accepted x) where
 
     pub output-means : meaning (canonical s) ≡ meaning s
     unfolding meaning
-    output-means = λ i. record {
-      version = ap (λ (y : Sheet). y .version) fields-same i;
-      header =
-          (header-of (canonical s)
-          ∙ ap (λ (y : Sheet). some (y .alignment) ∷ some (y .counter) ∷ []) fields-same
-          ∙ sym (header-of s)) i;
-      buffers = section-means 1 (omega arith) (omega arith) refl i;
-      blases = section-means 2 (omega arith) (omega arith) refl i;
-      declared = declared-same i;
-      tlases = section-means 4 (omega arith) (omega arith) refl i;
-      entries = section-means 5 (omega arith) (omega arith) refl i;
-      geometries = section-means 6 (omega arith) (omega arith) refl i;
-      packages = section-means 7 (omega arith) (omega arith) refl i;
-      slots = section-means 8 (omega arith) (omega arith) refl i;
-      actions = section-means 9 (omega arith) (omega arith) refl i;
-    }
+    output-means =
+        let header = header-of (canonical s) ∙ ap (λ (y : Sheet). some (y .alignment) ∷ some (y .counter) ∷ []) fields-same ∙ sym (header-of s) in
+        simp (
+          ap (λ (y : Sheet). y .version) fields-same,
+          header,
+          section-means 1 (omega arith) (omega arith) refl,
+          section-means 2 (omega arith) (omega arith) refl,
+          declared-same,
+          section-means 4 (omega arith) (omega arith) refl,
+          section-means 5 (omega arith) (omega arith) refl,
+          section-means 6 (omega arith) (omega arith) refl,
+          section-means 7 (omega arith) (omega arith) refl,
+          section-means 8 (omega arith) (omega arith) refl,
+          section-means 9 (omega arith) (omega arith) refl,
+        )
 
     -- ---- it is made of what it means
 
@@ -345,23 +344,23 @@ module _ (s : List ℕ) (x : Sheet) (e : readSheet s ≡ accepted x) (b : Below 
 -- ---- calls
 
 -- a call that wrote n bytes of out, and left p
-module _ (s out p : List ℕ) (n : ℕ) (w : WritesSheet s out (written n) p) (b : Below s) where
+module _ (s out p : List ℕ) (n : ℕ) (w : WritesSheet s out (wrote n) p) (b : Below s) where
   reading-of :
       (r : Reading) (v : Writing)
-      → written n ≡ afterReading r v
-      → (x : Sheet) × ((r ≡ accepted x) × (written n ≡ v))
+      → wrote n ≡ afterReading r v
+      → (x : Sheet) × ((r ≡ accepted x) × (wrote n ≡ v))
   reading-of (accepted x) v q = (x, (refl, q))
   reading-of (rejected m at) v q = absurd (never q)
     where
-      never : written n ≡ unwritten m at → ⊥
+      never : wrote n ≡ unwritten m at → ⊥
       never q = let z : _≡_ {A = ℕ} 0 1 = cc in omega arith
 
   fits :
-      (t : Bool) → written n ≡ cond t (unwritten 39 0) (written (length (canonical s))) → (t ≡ false) × (n ≡ length (canonical s))
+      (t : Bool) → wrote n ≡ cond t (unwritten 39 0) (wrote (length (canonical s))) → (t ≡ false) × (n ≡ length (canonical s))
   fits false q = (refl, cc)
   fits true q = absurd (never q)
     where
-      never : written n ≡ unwritten 39 0 → ⊥
+      never : wrote n ≡ unwritten 39 0 → ⊥
       never q = let z : _≡_ {A = ℕ} 0 1 = cc in omega arith
 
   ruled : (x : Sheet) × ((readSheet s ≡ accepted x) × ((length (canonical s) ≤ length out) × (n ≡ length (canonical s))))
@@ -387,11 +386,11 @@ module _ (s out p : List ℕ) (n : ℕ) (w : WritesSheet s out (written n) p) (b
 -- what a call wrote, written again, is itself
 pub writes-again :
     (s out p : List ℕ) (n : ℕ)
-    → WritesSheet s out (written n) p
+    → WritesSheet s out (wrote n) p
     → Below s
     → Below p
     → (out₂ q : List ℕ) (m : ℕ)
-    → WritesSheet (take n p) out₂ (written m) q
+    → WritesSheet (take n p) out₂ (wrote m) q
     → take m q ≡ take n p
 writes-again s out p n w b c out₂ q m v =
     let x = ruled s out p n w b in
@@ -402,10 +401,10 @@ writes-again s out p n w b c out₂ q m v =
 -- "two sheets give equal output exactly when they mean the same": of any two calls that wrote
 pub writes-exactly :
     (s out p : List ℕ) (n : ℕ)
-    → WritesSheet s out (written n) p
+    → WritesSheet s out (wrote n) p
     → Below s
     → (t out₂ q : List ℕ) (m : ℕ)
-    → WritesSheet t out₂ (written m) q
+    → WritesSheet t out₂ (wrote m) q
     → Below t
     → (take n p ≡ take m q) ↔ (meaning s ≡ meaning t)
 writes-exactly s out p n w b t out₂ q m v c =

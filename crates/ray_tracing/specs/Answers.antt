@@ -4,7 +4,7 @@ use Rattle.ray_tracing.specs.Reading.{Reading, accepted, rejected}
 use Rattle.ray_tracing.specs.Plan.{Building, recorded, nothing-recorded, not-built}
 use Rattle.ray_tracing.specs.Instances.{Appending, inUse, refused}
 use Rattle.ray_tracing.specs.Report.{Reporting}
-use Rattle.ray_tracing.specs.Canonical.{Writing, written, unwritten}
+use Rattle.ray_tracing.specs.Canonical.{Writing, wrote, unwritten}
 use Rattle.ray_tracing.specs.declared.SheetAnswer.{SheetAnswer}
 use Rattle.ray_tracing.specs.declared.WriteAnswer.{WriteAnswer}
 use Rattle.ray_tracing.specs.declared.BuildAnswer.{BuildAnswer}
@@ -68,7 +68,7 @@ sheetAnswer (rejected n p) =
 
 -- how many bytes of a sheet were written, or why not and where
 abbrev pub writeAnswer : Writing → WriteAnswer
-writeAnswer (written n) = record { number = 0; place = 0; written = n }
+writeAnswer (wrote n) = record { number = 0; place = 0; written = n }
 writeAnswer (unwritten n p) = record { number = n; place = p; written = 0 }
 
 -- how many elements of each output a build wrote, or E and the cause with its figures

@@ -64,12 +64,12 @@ canonical s = sheetBytes (leAt 4 s 1) (leAt 8 s 5) (canonicalTables s)
 
 -- how many bytes it wrote; or a refusal's number and place
 pub data Writing : Type 0 where
-  written : ℕ → Writing
+  wrote : ℕ → Writing
   unwritten : ℕ → ℕ → Writing
 
 -- what the code's answer says
 abbrev pub writingOf : SheetWritten → Writing
-writingOf (sheet-written.Written n) = written n
+writingOf (sheet-written.Written n) = wrote n
 writingOf (sheet-written.Refused e p) = unwritten (sheetNumber e) p
 writingOf sheet-written.TooShort = unwritten 39 0
 
@@ -80,11 +80,11 @@ afterReading (accepted x) w = w
 
 unfoldable pub writeRule : List ℕ → ℕ → Writing
 writeRule s room =
-    afterReading (readSheet s) (cond (ltb room (length (canonical s))) (unwritten 39 0) (written (length (canonical s))))
+    afterReading (readSheet s) (cond (ltb room (length (canonical s))) (unwritten 39 0) (wrote (length (canonical s))))
 
 -- "nothing written"; past what is written the bytes out are kept
 abbrev pub writingLeaves : Writing → List ℕ → List ℕ → List ℕ
-writingLeaves (written n) text out = sets out 0 text
+writingLeaves (wrote n) text out = sets out 0 text
 writingLeaves (unwritten n p) text out = out
 
 -- a call that is to write the sheet s into the bytes out: it answered a, by what it says of that, and left p

@@ -75,9 +75,6 @@ pub record Left (s : List ℕ) (at : ℕ) (text : List ℕ) (end : ℕ) (t rest 
 pub left-all : (s : List ℕ) (at : ℕ) (text : List ℕ) → Left s at text at s text
 left-all s at text = record { ends = refl; bytes = refl; same = refl }
 
-pub left-begin : (s : List ℕ) (at : ℕ) (text : List ℕ) → Left s at text (at + 0) s (drop 0 text)
-left-begin s at text = rw add-zero (left-all s at text)
-
 pub left-less :
     {s t u text x rest : List ℕ} {at end next : ℕ}
     → Left s at text end t (x ++ rest)
@@ -99,15 +96,6 @@ rest-more l k h = rw add-one (drop-cons l k 0 h)
 
 pub rest-none : (l : List ℕ) (k : ℕ) → length l ≤ k → drop k l ≡ []
 rest-none l k h = drop-of-length-le l h
-
--- a copy's turn: element k
-pub left-copied :
-    (s : List ℕ) (at : ℕ) (text t : List ℕ) (k : ℕ)
-    → k < length text
-    → Left s at text (at + k) t (drop k text)
-    → Left s at text (at + (k + 1)) (set t (at + k) (getD text k 0)) (drop (k + 1) text)
-left-copied s at text t k h l =
-    rw (← add-assoc at k 1) (left-less {x = getD text k 0 ∷ []} (rw (rest-more text k h) at l) (put-one t (at + k) (getD text k 0)))
 
 -- ---- lengths
 

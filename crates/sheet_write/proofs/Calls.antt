@@ -8,7 +8,7 @@ use lib.Dec.{ltb}
 use borrow.Author.Tests.{lt-ltb, le-ltb}
 use Rattle.ray_tracing.specs.declared.Sheet.{Sheet}
 use Rattle.ray_tracing.specs.Reading.{fine, Judged, refused, accepted, rejected, answer, readSheet, judgeSheet, sheetOf}
-use Rattle.ray_tracing.specs.Canonical.{canonical, written, unwritten, writeRule, WritesSheet}
+use Rattle.ray_tracing.specs.Canonical.{canonical, wrote, unwritten, writeRule, WritesSheet}
 use Rattle.ray_tracing.proofs.Instances.{Below}
 use Rattle.ray_tracing.proofs.Sheets.{accepted-judged}
 use Rattle.ray_tracing.proofs.Canonical.{output-length}
@@ -31,7 +31,7 @@ module _ (s out : List ℕ) where
         let t = lt-ltb (length out) (length s) h in
         record { answer = rw (← e, as-long, t); left = rw (← e, as-long, t) }
 
-    pub written-call : length s ≤ length out → (p : List ℕ) → p ≡ sets out 0 (canonical s) → WritesSheet s out (written (length s)) p
+    pub written-call : length s ≤ length out → (p : List ℕ) → p ≡ sets out 0 (canonical s) → WritesSheet s out (wrote (length s)) p
     unfolding writeRule
     written-call h p g =
         let t = le-ltb (length out) (length s) h in
