@@ -1,6 +1,6 @@
 -- "Reading its output gives the same meaning; two sheets give equal output exactly when they mean the same": of the canonical sheet, and
 -- of what a call left.
-use Prim.Native.Nat.{ℕ, zero, suc, _+_, _-_, _*_, _/_, _^_, _≤_, _<_}
+use Prim.Native.Nat.{ℕ, zero, suc, _+_, _-_, _*_, _/_, _≤_, _<_}
 use native.Mathlib.Nat.{zero-add, mul-div-cancel}
 use native.Mathlib.Numerals.{add-one}
 use native.Mathlib.Omega.{arith}
@@ -8,18 +8,18 @@ use mathlib.Core.Bool.{Bool, true, false, cond, true≢false, false≢true}
 use mathlib.Core.Path.{_≡_, refl, sym, ap, _∙_, subst}
 use mathlib.Core.Logic.{_↔_}
 use mathlib.Core.List.{List, [], _∷_, _++_, map, flatten}
-use mathlib.Core.Option.{Option, none, some}
+use mathlib.Core.Option.{some}
 use lib.Dec.{eqb, ltb, lit<}
-use lib.ListN.{length, getD, take, drop}
+use lib.ListN.{length, take, drop}
 use lib.Seq.{sets, sets-eq, take-at}
 use borrow.Author.Tests.{ltb-true, ltb-false}
-use Rattle.wire.specs.Wire.{leAt, leBytes}
+use Rattle.wire.specs.Wire.{leAt}
 use Rattle.wire.proofs.Laws.{le-below, le-drop}
 use Rattle.ray_tracing.specs.declared.Sheet.{Sheet}
 use Rattle.ray_tracing.specs.Layout.{Seen, Field, layout, size}
 use Rattle.ray_tracing.specs.Reading.{fine, judgeLent, past, from, table, begin, sectionOf, sheetOf, Reading, accepted, rejected, readSheet}
 use Rattle.ray_tracing.specs.Meaning.{recordsFrom, recordsOf, declaredLists, recordMeaning, heldMeaning, sectionMeaning, Meaning, meaning}
-use Rattle.ray_tracing.specs.Canonical.{sectionBytes, headerBytes, sheetBytes, countOf, canonicalTable, canonicalTables, canonical, Writing, wrote, unwritten, afterReading, writeRule, writingLeaves, WritesSheet}
+use Rattle.ray_tracing.specs.Canonical.{sectionBytes, headerBytes, sheetBytes, countOf, canonicalTables, canonical, Writing, wrote, unwritten, afterReading, writeRule, writingLeaves, WritesSheet}
 use Rattle.ray_tracing.specs.Writing.{endOf, sectionWith, sheetWith}
 use Rattle.ray_tracing.proofs.Each.{each, size-positive}
 use Rattle.ray_tracing.proofs.Instances.{Below}

@@ -1,28 +1,22 @@
 -- A table that is judged fine, made canonical: it is as long, judged fine, and its records are the canonical ones in their order.
-use Prim.Native.Nat.{ℕ, zero, suc, _+_, _-_, _*_, _/_, _%_, _≤_, _<_}
-use native.Mathlib.Nat.{add-zero, zero-add, suc-mul, mul-div-cancel, mul-mod-left, div-add-mod'}
+use Prim.Native.Nat.{ℕ, zero, suc, _+_, _-_, _*_, _/_, _<_}
+use native.Mathlib.Nat.{div-add-mod'}
 use native.Mathlib.Decide.{ℕ-discrete}
 use native.Mathlib.Omega.{arith}
-use mathlib.Core.Bool.{Bool, true, false, cond}
+use mathlib.Core.Bool.{false}
 use mathlib.Core.Path.{_≡_, refl, sym, ap, _∙_, subst}
-use mathlib.Core.List.{List, [], _∷_, _++_, map, flatten, append-nil}
-use mathlib.Core.Option.{Option}
+use mathlib.Core.List.{List, [], _∷_, map, flatten, append-nil}
 use lib.Dec.{eqb}
-use lib.ListN.{length, getD, take, drop, length-append, length-drop}
-use lib.Seq.{take-take, take-add, take-all, getD-take, getD-drop}
-use borrow.Author.Tests.{eqb-true, eq-eqb, ne-eqb, ltb-true}
-use Rattle.wire.specs.Wire.{leAt}
-use Rattle.wire.proofs.Laws.{le-append-left, le-take}
-use Rattle.ray_tracing.specs.Layout.{Seen, Field, always, inside, kindKnown, u16, telling, layout, total, size}
-use Rattle.ray_tracing.specs.Reading.{fine, judgeField, judgeFields, judgeRecords, judgeDrawn, judgeTable, judgeLent, sumOfCounts, addsUp, begin, ofBoxes, drawnCount}
-use Rattle.ray_tracing.specs.Meaning.{Held, recordsFrom, drawnFrom, recordsOf, ofBlas, byBlas, declaredLists, recordMeaning, heldMeaning}
-use Rattle.ray_tracing.specs.Canonical.{canonicalRecord, heldCanonical, inOrder, canonicalTable}
-use Rattle.ray_tracing.proofs.Each.{each, size-positive}
-use Rattle.ray_tracing.proofs.Instances.{Below}
+use lib.ListN.{length, drop, length-append}
+use borrow.Author.Tests.{eqb-true, ne-eqb, ltb-true}
+use Rattle.ray_tracing.specs.Layout.{Seen, Field, always, inside, kindKnown, u16, telling, layout, size}
+use Rattle.ray_tracing.specs.Reading.{fine, judgeField, judgeFields, judgeLent, sumOfCounts, begin, ofBoxes, drawnCount}
+use Rattle.ray_tracing.specs.Meaning.{Held, recordsFrom, drawnFrom, recordsOf, byBlas}
+use Rattle.ray_tracing.specs.Canonical.{inOrder, canonicalTable}
 use Rattle.ray_tracing.proofs.Reading.{or-fine}
 use Rattle.ray_tracing.proofs.Sheets.{Lent, lent-tells, lent-of, field-allowed}
-use Rattle.ray_tracing.proofs.Zeroed.{Alike, layouts-alike, recordOf, of-meaning}
-use Rattle.ray_tracing.proofs.Held.{All, all-append, all-by, Fine, fine-whole, records-each, records-all, records-count, records-seen, drawn-each, drawn-all, bytesIn, remade, bytes-length, cut, cut-drawn, remade-fine, remade-means}
+use Rattle.ray_tracing.proofs.Zeroed.{layouts-alike}
+use Rattle.ray_tracing.proofs.Held.{All, all-by, Fine, records-each, records-all, records-count, records-seen, drawn-each, drawn-all, bytesIn, remade, bytes-length, cut, cut-drawn, remade-fine}
 use Rattle.ray_tracing.proofs.ByBlas.{blasOf, ordered-length}
 
 -- what is known of the table s of section k, after the table t

@@ -1,22 +1,18 @@
 -- The records of a table, one by one: each is judged as the table is, and a table made of canonical records has them as its records.
-use Prim.Native.Nat.{ℕ, zero, suc, _+_, _-_, _*_, _/_, _≤_, _<_}
-use native.Mathlib.Nat.{add-zero, zero-add, add-assoc, zero-mul, suc-mul}
-use native.Mathlib.Numerals.{add-one}
-use native.Mathlib.Decide.{ℕ-discrete, decLt}
+use Prim.Native.Nat.{ℕ, zero, suc, _+_, _*_, _≤_}
+use native.Mathlib.Nat.{add-zero, zero-mul, suc-mul}
 use native.Mathlib.Omega.{arith}
 use mathlib.Core.Bool.{Bool, true, false, cond}
 use mathlib.Core.Path.{_≡_, refl, sym, ap, _∙_, subst}
-use mathlib.Core.List.{List, [], _∷_, _++_, map, flatten, append-assoc, append-nil, map-append}
+use mathlib.Core.List.{List, [], _∷_, _++_, map, flatten, append-assoc, map-append}
 use lib.Dec.{eqb}
-use lib.ListN.{length, take, drop, length-append, length-drop, length-map}
+use lib.ListN.{length, take, drop, length-append, length-drop}
 use lib.Seq.{length-take-le, take-append-le, drop-append-le, take-at, drop-at, drop-drop}
-use borrow.Author.Tests.{eqb-true, eqb-false, eq-eqb, ne-eqb}
 use Rattle.wire.specs.Wire.{leAt}
-use Rattle.wire.proofs.Laws.{le-append-left, le-take}
 use Rattle.ray_tracing.specs.Layout.{Seen, Field, layout, total, size}
-use Rattle.ray_tracing.specs.Reading.{Judged, fine, _andNext_, judgeFields, judgeRecords, judgeDrawn, judgeTable, sumOfCounts, begin, ofBoxes, drawnCount}
-use Rattle.ray_tracing.specs.Meaning.{Held, recordsFrom, drawnFrom, recordsOf, ofBlas, byBlas, recordMeaning, heldMeaning}
-use Rattle.ray_tracing.specs.Canonical.{canonicalRecord, heldCanonical}
+use Rattle.ray_tracing.specs.Reading.{fine, judgeFields, judgeRecords, judgeDrawn, sumOfCounts, begin, ofBoxes, drawnCount}
+use Rattle.ray_tracing.specs.Meaning.{Held, recordsFrom, drawnFrom, ofBlas, byBlas, recordMeaning}
+use Rattle.ray_tracing.specs.Canonical.{canonicalRecord}
 use Rattle.ray_tracing.proofs.Reading.{or-fine, fields-whole, records-whole}
 use Rattle.ray_tracing.proofs.Windows.{moved, window-part, fields-window}
 use Rattle.ray_tracing.proofs.Sheets.{moved-fine}

@@ -1,25 +1,25 @@
 -- A canonical table means what the table did, and is the bytes of that meaning. A table whose fields are all used is canonical.
-use Prim.Native.Nat.{ℕ, zero, suc, _+_, _-_, _*_, _/_, _%_, _≤_, _<_}
+use Prim.Native.Nat.{ℕ, zero, suc, _+_, _-_, _*_, _/_, _<_}
 use native.Mathlib.Nat.{zero-mul, suc-mul, div-add-mod'}
 use native.Mathlib.Decide.{decLt}
 use native.Mathlib.Omega.{arith}
 use mathlib.Core.Bool.{Bool, true, false, _||_, cond, true≢false}
 use mathlib.Core.Path.{_≡_, refl, sym, ap, _∙_}
-use mathlib.Core.List.{List, [], _∷_, _++_, map, flatten}
+use mathlib.Core.List.{List, [], _∷_, map, flatten}
 use mathlib.Core.Option.{Option}
 use lib.Dec.{eqb}
-use lib.ListN.{length, getD, take, drop, length-take, List·getD-eq-default}
+use lib.ListN.{length, take, drop, length-take, List·getD-eq-default}
 use lib.Seq.{take-take, take-add, take-all, getD-take, getD-drop}
 use Rattle.wire.specs.Wire.{leAt}
 use Rattle.wire.proofs.Laws.{le-append-left, le-take}
 use Rattle.ray_tracing.specs.Layout.{Seen, Field, layout, total, size}
 use Rattle.ray_tracing.specs.Reading.{fine, judgeLent, begin, ofBoxes, drawnCount}
-use Rattle.ray_tracing.specs.Meaning.{Held, recordsFrom, drawnFrom, recordsOf, ofBlas, byBlas, declaredLists, recordMeaning, heldMeaning}
+use Rattle.ray_tracing.specs.Meaning.{Held, recordsFrom, drawnFrom, recordsOf, ofBlas, byBlas, declaredLists, heldMeaning}
 use Rattle.ray_tracing.specs.Canonical.{canonicalRecord, inOrder, canonicalTable}
 use Rattle.ray_tracing.proofs.Each.{each}
 use Rattle.ray_tracing.proofs.Instances.{Below}
 use Rattle.ray_tracing.proofs.Sheets.{lent-tells}
-use Rattle.ray_tracing.proofs.Zeroed.{layouts-alike, zeroed-length, recordOf, of-meaning}
+use Rattle.ray_tracing.proofs.Zeroed.{layouts-alike, recordOf, of-meaning}
 use Rattle.ray_tracing.proofs.Held.{All, all-append, all-of, Fine, fine-whole, bytesIn, remade, remade-means, flatten-map}
 use Rattle.ray_tracing.proofs.ByBlas.{blasOf, by-ordered, by-map}
 use Rattle.ray_tracing.proofs.CanonicalTable.{Made}

@@ -1,5 +1,5 @@
 -- A record with its unused fields zero: it is judged as it was, it means what it did, and it is the bytes of its meaning.
-use Prim.Native.Nat.{ℕ, zero, suc, _+_, _-_, _*_, _≤_, _<_}
+use Prim.Native.Nat.{ℕ, zero, suc, _+_, _*_, _≤_, _<_}
 use native.Mathlib.Nat.{add-zero, zero-add}
 use native.Mathlib.Omega.{arith}
 use mathlib.Core.Bool.{Bool, true, false, not, _||_, cond}
@@ -9,11 +9,11 @@ use mathlib.Core.Option.{Option, none, some}
 use lib.Dec.{eqb, ltb}
 use lib.ListN.{length, getD, take, drop, replicate, length-append, length-drop, length-replicate}
 use lib.Seq.{length-take-le, drop-at, getD-drop}
-use borrow.Author.Tests.{le-ltb, ltb-false, not-false}
+use borrow.Author.Tests.{le-ltb, not-false}
 use Rattle.wire.specs.Wire.{leAt, leBytes}
-use Rattle.wire.proofs.Laws.{le-cong, le-take, le-drop, le-append-left, leBytes-at}
-use Rattle.ray_tracing.specs.Layout.{Seen, Field, fits, layout, total, size, triangles, withBuffer, present, any, wide, presentByte, bufferOrNone, u64, tagKnown}
-use Rattle.ray_tracing.specs.Reading.{Judged, fine, refused, judgedWhen, _andNext_, judgeField, judgeFields}
+use Rattle.wire.proofs.Laws.{le-take, le-append-left, leBytes-at}
+use Rattle.ray_tracing.specs.Layout.{Seen, Field, fits, layout, total, triangles, withBuffer, present, any, wide, presentByte, bufferOrNone, u64, tagKnown}
+use Rattle.ray_tracing.specs.Reading.{fine, refused, judgedWhen, judgeField, judgeFields}
 use Rattle.ray_tracing.specs.Meaning.{recordMeaning}
 use Rattle.ray_tracing.specs.Canonical.{canonicalRecord}
 use Rattle.ray_tracing.proofs.Each.{each}
@@ -47,190 +47,49 @@ plain (f ∷ fs) p c =
 abbrev drawn : List ℕ → ℕ → Bool → ℕ → Seen
 drawn b w n t = record { before = b; each = w; boxes = false; none = n; tag = t }
 
+-- a field that is judged alike in both, and those after it
+next : {A B C : Type 0} → A → B → C → A × (B × C)
+next used allowed rest = (used, (allowed, rest))
+
 -- a present byte that goes with a buffer, and the number behind it; what follows goes by no tag
 with-number :
     (b : List ℕ) (w width : ℕ) (fs : List Field) (n : Bool) (t u : ℕ)
     → ((x y : ℕ) → Alike fs (drawn b w n x) (drawn b w n y))
     → Alike (presentByte (withBuffer triangles) ∷ wide width (present (withBuffer triangles)) any ∷ fs) (drawn b w n t) (drawn b w n u)
-with-number b w width fs false t u h = (refl, ((λ v. refl), λ v. (refl, ((λ x. refl), λ x. h v v))))
-with-number b w width fs true t u h = (refl, ((λ v. refl), λ v. (refl, ((λ x. refl), λ x. h v 0))))
+with-number b w width fs false t u h = next refl (λ v. refl) λ v. next refl (λ x. refl) λ x. h v v
+with-number b w width fs true t u h = next refl (λ v. refl) λ v. next refl (λ x. refl) λ x. h v 0
 
 abbrev transformFields : List Field
 transformFields = bufferOrNone ∷ presentByte (withBuffer triangles) ∷ u64 (present (withBuffer triangles)) any ∷ []
 
 transform-alike :
     (b : List ℕ) (w : ℕ) (n : Bool) (t u : ℕ) → Alike transformFields (drawn b w n t) (drawn b w n u)
-transform-alike b w n t u = (refl, ((λ v. refl), λ v. with-number b w 8 [] (eqb v 65535) t u (λ x y. tt)))
+transform-alike b w n t u = next refl (λ v. refl) λ v. with-number b w 8 [] (eqb v 65535) t u (λ x y. tt)
 
 -- a geometry's fields after its data buffer
 geometry-alike :
     (boxes : Bool) (b : List ℕ) (w : ℕ) (n : Bool) (t : ℕ)
     → let c : Seen = record { before = b; each = w; boxes = boxes; none = n; tag = t } in
     Alike (drop 5 (layout 6 .fields)) c c
-geometry-alike true b w n t = (
-  refl,
-  (
-    (λ v. refl),
-    λ v. (
-      refl,
-      (
-        (λ v. refl),
-        λ v. (
-          refl,
-          (
-            (λ v. refl),
-            λ v. (
-              refl,
-              (
-                (λ v. refl),
-                λ v. (
-                  refl,
-                  (
-                    (λ v. refl),
-                    λ v. (
-                      refl,
-                      (
-                        (λ v. refl),
-                        λ v. (
-                          refl,
-                          (
-                            (λ v. refl),
-                            λ v. (
-                              refl,
-                              (
-                                (λ v. refl),
-                                λ v. (
-                                  refl,
-                                  (
-                                    (λ v. refl),
-                                    λ v. (
-                                      refl,
-                                      (
-                                        (λ v. refl),
-                                        λ v.
-                                            tt,
-                                      ),
-                                    ),
-                                  ),
-                                ),
-                              ),
-                            ),
-                          ),
-                        ),
-                      ),
-                    ),
-                  ),
-                ),
-              ),
-            ),
-          ),
-        ),
-      ),
-    ),
-  ),
-)
-geometry-alike false b w n t = (
-  refl,
-  (
-    (λ v. refl),
-    λ v. (
-      refl,
-      (
-        (λ v. refl),
-        λ v. (
-          refl,
-          (
-            (λ v. refl),
-            λ i. (
-              refl,
-              (
-                (λ v. refl),
-                λ p. (
-                  refl,
-                  (
-                    (λ v. refl),
-                    λ v.
-                        with-number b w 4 transformFields (eqb i 65535) p p (λ x y. transform-alike b w (eqb i 65535) x y),
-                  ),
-                ),
-              ),
-            ),
-          ),
-        ),
-      ),
-    ),
-  ),
-)
+geometry-alike true b w n t =
+    next refl (λ v. refl) λ v. next refl (λ v. refl) λ v. next refl (λ v. refl) λ v. next refl (λ v. refl) λ v.
+    next refl (λ v. refl) λ v. next refl (λ v. refl) λ v. next refl (λ v. refl) λ v. next refl (λ v. refl) λ v.
+    next refl (λ v. refl) λ v. next refl (λ v. refl) λ v. tt
+geometry-alike false b w n t =
+    next refl (λ v. refl) λ v. next refl (λ v. refl) λ v. next refl (λ v. refl) λ i. next refl (λ v. refl) λ p.
+    next refl (λ v. refl) λ v. with-number b w 4 transformFields (eqb i 65535) p p (λ x y. transform-alike b w (eqb i 65535) x y)
 
 -- a declared geometry's fields after its Blas
 declared-alike :
     (boxes : Bool) (b : List ℕ) (w : ℕ) (n : Bool) (t : ℕ)
     → let c : Seen = record { before = b; each = w; boxes = boxes; none = n; tag = t } in
     Alike (drop 1 (layout 3 .fields)) c c
-declared-alike true b w n t = (
-  refl,
-  (
-    (λ v. refl),
-    λ v. (
-      refl,
-      (
-        (λ v. refl),
-        λ v. (
-          refl,
-          (
-            (λ v. refl),
-            λ v. (
-              refl,
-              (
-                (λ v. refl),
-                λ v. (
-                  refl,
-                  (
-                    (λ v. refl),
-                    λ v.
-                        (refl, ((λ v. refl), λ v. (refl, ((λ v. refl), λ v. (refl, ((λ v. refl), λ v. tt)))))),
-                  ),
-                ),
-              ),
-            ),
-          ),
-        ),
-      ),
-    ),
-  ),
-)
-declared-alike false b w n t = (
-  refl,
-  (
-    (λ v. refl),
-    λ v. (
-      refl,
-      (
-        (λ v. refl),
-        λ v. (
-          refl,
-          (
-            (λ v. refl),
-            λ v. (
-              refl,
-              (
-                (λ v. refl),
-                λ v. (
-                  refl,
-                  (
-                    (λ v. refl),
-                    λ v.
-                        (refl, ((λ v. refl), λ v. (refl, ((λ v. refl), λ v. (refl, ((λ v. refl), λ v. tt)))))),
-                  ),
-                ),
-              ),
-            ),
-          ),
-        ),
-      ),
-    ),
-  ),
-)
+declared-alike true b w n t =
+    next refl (λ v. refl) λ v. next refl (λ v. refl) λ v. next refl (λ v. refl) λ v. next refl (λ v. refl) λ v.
+    next refl (λ v. refl) λ v. next refl (λ v. refl) λ v. next refl (λ v. refl) λ v. next refl (λ v. refl) λ v. tt
+declared-alike false b w n t =
+    next refl (λ v. refl) λ v. next refl (λ v. refl) λ v. next refl (λ v. refl) λ v. next refl (λ v. refl) λ v.
+    next refl (λ v. refl) λ v. next refl (λ v. refl) λ v. next refl (λ v. refl) λ v. next refl (λ v. refl) λ v. tt
 
 still : (c : Seen) → ℕ → c ≡ c
 still c v = refl
@@ -241,55 +100,24 @@ layouts-alike =
       plain (layout 0 .fields) (still, (still, tt)),
       (
         plain (layout 1 .fields) (still, (still, tt)),
-        (
-          plain (layout 2 .fields) (still, (still, (still, (still, (still, (still, (still, tt))))))),
-          (
-            (λ c. (refl, ((λ v. refl), λ v. declared-alike (eqb (getD (c .before) (v * c .each) 0) 1) (c .before) (c .each) (c .none) (c .tag)))),
-            (
-              plain (layout 4 .fields) (still, (still, (still, (still, (still, tt))))),
-              (
-                plain (layout 5 .fields) (still, (still, (still, tt))),
-                (
-                  (λ c. (
-                    refl,
-                    (
-                      (λ v. refl),
-                      λ v. (
-                        refl,
-                        (
-                          (λ v. refl),
-                          λ v. (
-                            refl,
-                            (
-                              (λ v. refl),
-                              λ v. (
-                                refl,
-                                (
-                                  (λ v. refl),
-                                  λ v.
-                                      (refl, ((λ v. refl), λ v. geometry-alike (c .boxes) (c .before) (c .each) (c .none) (c .tag))),
-                                ),
-                              ),
-                            ),
-                          ),
-                        ),
-                      ),
-                    ),
-                  )),
-                  (
-                    plain (layout 7 .fields) (still, (still, tt)),
-                    (
-                      (λ c. (refl, ((λ v. refl), λ v. plain (drop 1 (layout 8 .fields)) (still, (still, (still, (still, (still, (still, (still, (still, (still, (still, (still, (still, (still, (still, (still, tt))))))))))))))) (tagKnown c v)))),
-                      ((λ c. (refl, ((λ v. refl), λ v. plain (drop 1 (layout 9 .fields)) (still, tt) (tagKnown c v)))), tt),
-                    ),
-                  ),
-                ),
-              ),
-            ),
-          ),
-        ),
+        (plain (layout 2 .fields) (still, (still, (still, (still, (still, (still, (still, tt))))))), (declared-fields, (plain (layout 4 .fields) (still, (still, (still, (still, (still, tt))))), (plain (layout 5 .fields) (still, (still, (still, tt))), (geometry-fields, (plain (layout 7 .fields) (still, (still, tt)), (slot-fields, (action-fields, tt)))))))),
       ),
     )
+  where
+    declared-fields : (c : Seen) → Alike (layout 3 .fields) c c
+    declared-fields c =
+        next refl (λ v. refl) λ v. declared-alike (eqb (getD (c .before) (v * c .each) 0) 1) (c .before) (c .each) (c .none) (c .tag)
+
+    geometry-fields : (c : Seen) → Alike (layout 6 .fields) c c
+    geometry-fields c =
+        next refl (λ v. refl) λ v. next refl (λ v. refl) λ v. next refl (λ v. refl) λ v. next refl (λ v. refl) λ v.
+        next refl (λ v. refl) λ v. geometry-alike (c .boxes) (c .before) (c .each) (c .none) (c .tag)
+
+    slot-fields : (c : Seen) → Alike (layout 8 .fields) c c
+    slot-fields c = next refl (λ v. refl) λ v. plain (drop 1 (layout 8 .fields)) (still, (still, (still, (still, (still, (still, (still, (still, (still, (still, (still, (still, (still, (still, (still, tt))))))))))))))) (tagKnown c v)
+
+    action-fields : (c : Seen) → Alike (layout 9 .fields) c c
+    action-fields c = next refl (λ v. refl) λ v. plain (drop 1 (layout 9 .fields)) (still, tt) (tagKnown c v)
 
 -- ---- a field
 

@@ -1,6 +1,6 @@
 -- Laws of writing: one text after another, what is left of a text to write, and the lengths of numbers and lines.
 use Prim.Native.Nat.{ℕ, zero, suc, _+_, _-_, _*_, _/_, _%_, _^_, _≤_, _<_}
-use native.Mathlib.Nat.{zero-add, add-zero, add-assoc, pow-succ', not-suc-le-zero}
+use native.Mathlib.Nat.{zero-add, add-assoc, pow-succ', not-suc-le-zero}
 use native.Mathlib.Numerals.{add-one, sub-one}
 use native.Mathlib.Omega.{arith}
 use mathlib.Core.Bool.{Bool, true, false, cond}

@@ -4,20 +4,19 @@ use native.Mathlib.Nat.{suc-mul, zero-mul}
 use native.Mathlib.Numerals.{sub-one}
 use native.Mathlib.Omega.{arith}
 use mathlib.Core.Path.{_≡_, refl, sym, ap, _∙_}
-use mathlib.Core.List.{List, [], _∷_, _++_, map, flatten, append-assoc}
+use mathlib.Core.List.{List, map, flatten}
 use lib.ListN.{length, take, drop, length-append, length-drop}
 use lib.Seq.{sets, length-take-le, drop-drop}
-use Rattle.wire.specs.Wire.{leAt}
 use Rattle.wire.proofs.Laws.{le-past}
-use Rattle.ray_tracing.specs.Layout.{Seen, Field, layout, total, size}
+use Rattle.ray_tracing.specs.Layout.{Seen, layout, size}
 use Rattle.ray_tracing.specs.Reading.{begin, ofBoxes, drawnCount, sumOfCounts}
 use Rattle.ray_tracing.proofs.Reading.{sum-more}
 use Rattle.ray_tracing.proofs.Zeroed.{canonical-length}
 use Rattle.ray_tracing.proofs.Held.{flatten-map}
 use Rattle.ray_tracing.specs.Meaning.{recordsFrom, drawnFrom}
-use Rattle.ray_tracing.specs.Canonical.{canonicalRecord, heldCanonical}
+use Rattle.ray_tracing.specs.Canonical.{heldCanonical}
 use Rattle.sheet_clear.specs.Cleared.{recordCleared, BlasesInside}
-use Rattle.sheet_clear.proofs.Writes.{write-next, length-kept}
+use Rattle.sheet_clear.proofs.Writes.{write-next}
 
 pub length-cleared : (k : ℕ) (c : Seen) (s : List ℕ) (at : ℕ) → at + size k ≤ length s → length (recordCleared k c s at) ≡ size k
 length-cleared k c s at h =

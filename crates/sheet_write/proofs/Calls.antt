@@ -1,13 +1,12 @@
 -- What a call answers and leaves: where the reader refuses, where there is too little room, and where it writes.
 use Prim.Native.Nat.{ℕ, _≤_, _<_}
-use mathlib.Core.Path.{_≡_, refl, sym}
+use mathlib.Core.Path.{_≡_, sym}
 use mathlib.Core.List.{List}
 use lib.ListN.{length}
 use lib.Seq.{sets}
-use lib.Dec.{ltb}
 use borrow.Author.Tests.{lt-ltb, le-ltb}
 use Rattle.ray_tracing.specs.declared.Sheet.{Sheet}
-use Rattle.ray_tracing.specs.Reading.{fine, Judged, refused, accepted, rejected, answer, readSheet, judgeSheet, sheetOf}
+use Rattle.ray_tracing.specs.Reading.{fine, accepted, rejected, answer, readSheet, judgeSheet}
 use Rattle.ray_tracing.specs.Canonical.{canonical, wrote, unwritten, writeRule, WritesSheet}
 use Rattle.ray_tracing.proofs.Instances.{Below}
 use Rattle.ray_tracing.proofs.Sheets.{accepted-judged}

@@ -3,18 +3,18 @@ use Prim.Native.Nat.{ℕ, zero, suc, _+_, _-_, _*_, _/_, _≤_, _<_}
 use native.Mathlib.Nat.{zero-add, mul-div-cancel}
 use native.Mathlib.Omega.{arith}
 use mathlib.Core.Path.{_≡_, refl, sym, ap, _∙_}
-use mathlib.Core.List.{List, [], _∷_, _++_, append-assoc}
-use lib.ListN.{length, getD, take, drop, length-append}
+use mathlib.Core.List.{List, [], _∷_, append-assoc}
+use lib.ListN.{length, take, drop, length-append}
 use lib.Seq.{sets, drop-drop, take-add}
 use Rattle.wire.specs.Wire.{leAt, leBytes}
 use Rattle.wire.proofs.Laws.{sets-append, leBytes-at, length-leBytes}
 use Rattle.ray_tracing.specs.declared.Sheet.{Sheet}
 use Rattle.ray_tracing.specs.Layout.{layout, size}
-use Rattle.ray_tracing.specs.Reading.{fine, judgeLent, past, from, table, sheetOf, sectionOf, accepted, answer, readSheet, judgeSheet}
+use Rattle.ray_tracing.specs.Reading.{fine, judgeLent, past, from, table, sheetOf, accepted, readSheet, judgeSheet}
 use Rattle.ray_tracing.specs.Canonical.{countOf, sectionBytes, headerBytes, sheetBytes, canonicalTable, canonicalTables, canonical}
 use Rattle.ray_tracing.proofs.Each.{size-positive}
 use Rattle.ray_tracing.proofs.Instances.{Below}
-use Rattle.ray_tracing.proofs.Reading.{past-more, from-more, section-most}
+use Rattle.ray_tracing.proofs.Reading.{past-more, section-most}
 use Rattle.ray_tracing.proofs.Sheets.{accepted-version, accepted-section, accepted-whole, accepted-length, accepted-lent, table-section}
 use Rattle.ray_tracing.proofs.Canonical.{count-same, length-at}
 use Rattle.sheet_write.specs.Sections.{sectionWritten}
@@ -53,9 +53,6 @@ module _ (s : List ℕ) (f : judgeSheet s ≡ fine) where
         go : (j : ℕ) → j < 9 → from s j ≤ past s j
         go zero l = omega arith
         go (suc j) l = omega arith
-
-    pub table-before : take (past s k - from s k) (drop (from s k) s) ≡ table s k
-    table-before = refl
 
     pub table-here : take (past s k + 2 + leAt 2 s (past s k) * size (k + 1) - (past s k + 2)) (drop (past s k + 2) s) ≡ table s (k + 1)
     table-here =

@@ -1,5 +1,5 @@
 -- `sheet_write::write_section` meets its contract: the places are those of the accepted sheet, and the count and the table follow on.
-use Prim.Native.Nat.{_+_, _-_, _*_, _≤_}
+use Prim.Native.Nat.{_+_, _-_, _*_}
 use native.Mathlib.Omega.{arith}
 use mathlib.Core.Path.{_≡_, sym, ap}
 use lib.ListN.{length, take, drop, length-take}
