@@ -17,7 +17,7 @@ use ray_tracing::Written;
 ghost use mathlib.Core.Path.{_≡_};
 ghost use Rattle.ray_tracing.specs.Causes.{readingOf};
 ghost use Rattle.ray_tracing.specs.Reading.{accepted, rejected};
-ghost use Rattle.ray_tracing.specs.Canonical.{writingOf};
+ghost use Rattle.ray_tracing.specs.Canonical.{unwritten, writingOf};
 ghost use Rattle.ray_tracing.specs.Plan.{recorded, nothing-recorded, not-built, buildingOf};
 ghost use Rattle.ray_tracing.specs.Instances.{appendedOf};
 ghost use Rattle.ray_tracing.specs.Report.{reportedOf};
@@ -93,6 +93,16 @@ pub fn sheet_answer(read: SheetRead) -> SheetAnswer
     }
 }
 
+fn write_refused(number: u64, place: u64) -> WriteAnswer
+    ensures { λ r. ⌜ r ≡ writeAnswer (unwritten number place) ⌝ }
+{
+    WriteAnswer {
+        number,
+        place,
+        written: 0,
+    }
+}
+
 pub fn write_answer(written: SheetWritten) -> WriteAnswer
     ensures { λ r. ⌜ r ≡ writeAnswer (writingOf written) ⌝ }
 {
@@ -102,16 +112,8 @@ pub fn write_answer(written: SheetWritten) -> WriteAnswer
             place: 0,
             written: n as u64,
         },
-        SheetWritten::Refused(e, place) => WriteAnswer {
-            number: sheet_number(e),
-            place: place as u64,
-            written: 0,
-        },
-        SheetWritten::TooShort => WriteAnswer {
-            number: 39,
-            place: 0,
-            written: 0,
-        },
+        SheetWritten::Refused(e, place) => write_refused(sheet_number(e), place as u64),
+        SheetWritten::TooShort => write_refused(39, 0),
     }
 }
 

@@ -7,11 +7,21 @@ returns : tie.Need-returns
 returns c = rw (c .before .written .given .1)
 
 returns-2 : tie.Need-returns-2
-returns-2 c = rw (c .before .before .written2 .given .1, ← c .sheet-number .ensures)
+returns-2 c = rw (c .before .before .before .written2 .given .1, ← c .before .sheet-number .ensures) (c .write-refused .ensures)
 
 returns-3 : tie.Need-returns-3
-returns-3 c = rw (c .enum-told .given .1)
+returns-3 c = rw (c .before .enum-told .given .1) (c .write-refused2 .ensures)
 
 pub write-answer-spec : {M : Type 1} → statement M
 write-answer-spec =
-    tie.close (tie.spec (λ c. search needs) (λ c. search needs) (λ c κs. search needs) (λ c. search needs) returns returns-2 returns-3)
+    tie.close
+    (tie.spec
+    (λ c. search needs)
+    (λ c. search needs)
+    (λ c κs. search needs)
+    (λ c κs. search needs)
+    (λ c. search needs)
+    (λ c κs. search needs)
+    returns
+    returns-2
+    returns-3)
