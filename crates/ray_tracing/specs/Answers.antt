@@ -5,8 +5,10 @@ use Rattle.ray_tracing.specs.Plan.{Building, recorded, nothing-recorded,
 use Rattle.ray_tracing.specs.Instances.{Appending, inUse, refused}
 use Rattle.ray_tracing.specs.Report.{Reporting}
 use Rattle.ray_tracing.specs.Canonical.{Writing, wrote, unwritten}
+use Rattle.ray_tracing.specs.Groups.{Opening, opened, unopened}
 use Rattle.ray_tracing.specs.declared.SheetAnswer.{SheetAnswer}
 use Rattle.ray_tracing.specs.declared.WriteAnswer.{WriteAnswer}
+use Rattle.ray_tracing.specs.declared.OpenAnswer.{OpenAnswer}
 use Rattle.ray_tracing.specs.declared.BuildAnswer.{BuildAnswer}
 use Rattle.ray_tracing.specs.declared.AppendAnswer.{AppendAnswer}
 use Rattle.ray_tracing.specs.declared.ReportAnswer.{ReportAnswer}
@@ -70,6 +72,11 @@ sheetAnswer (rejected n p) =
 abbrev pub writeAnswer : Writing → WriteAnswer
 writeAnswer (wrote n) = record { number = 0; place = 0; written = n }
 writeAnswer (unwritten n p) = record { number = n; place = p; written = 0 }
+
+-- how many bytes of slots were written, or why not and where
+abbrev pub openAnswer : Opening → OpenAnswer
+openAnswer (opened n) = record { number = 0; place = 0; group = 0; item = 0; written = n }
+openAnswer (unopened n p g i) = record { number = n; place = p; group = g; item = i; written = 0 }
 
 -- how many elements of each output a build wrote, or E and the cause with its figures
 abbrev pub builtAnswer : Building → BuildAnswer

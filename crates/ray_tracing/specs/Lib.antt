@@ -14,6 +14,7 @@ pub mod History
 pub mod Claim
 pub mod Meaning
 pub mod Canonical
+pub mod Groups
 pub mod Writing
 pub mod Report
 pub mod Explain

@@ -28,6 +28,14 @@ pub const INSTANCE_SIZE: usize = 64;
 // An index or a transform buffer that is none.
 pub const NO_BUFFER: u16 = 65535;
 
+// The most groups, and the most slots that the last of them may open to.
+pub const MOST_GROUPS: usize = 64;
+
+pub const MOST_SLOTS: usize = 512;
+
+// The bytes of an item that names a group: the byte 2 and the group's number.
+pub const NAME_SIZE: usize = 3;
+
 // The cells of each Tlas's list.
 pub const TLAS_ROOM: usize = 512;
 
@@ -158,6 +166,24 @@ pub enum SheetRead {
 pub enum SheetWritten {
     Written(usize),
     Refused(SheetError, usize),
+    TooShort,
+}
+
+// What judging groups finds: nothing to refuse, and where what was judged ends; a sheet's error at its byte; or, at a group and an item, a count
+// of 0 or a group that is not an earlier one.
+pub enum GroupsJudged {
+    EndsAt(usize),
+    Refused(SheetError, usize),
+    InvalidGroup(usize, usize),
+}
+
+// What opening groups came to: how many bytes were written; what judging them refused; the group and the item of the slot that is one too
+// many; or too little room.
+pub enum GroupsOpened {
+    Written(usize),
+    Refused(SheetError, usize),
+    InvalidGroup(usize, usize),
+    TooManySlots(usize, usize),
     TooShort,
 }
 
@@ -368,6 +394,16 @@ pub struct SheetAnswer {
 pub struct WriteAnswer {
     pub number: u64,
     pub place: u64,
+    pub written: u64,
+}
+
+// What opening groups came to: number, place, and group and item; and how many bytes were written.
+#[repr(C)]
+pub struct OpenAnswer {
+    pub number: u64,
+    pub place: u64,
+    pub group: u64,
+    pub item: u64,
     pub written: u64,
 }
 
