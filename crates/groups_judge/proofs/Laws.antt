@@ -1,25 +1,16 @@
 -- Laws of judging groups: what a judge that refuses nothing tells. Assumes nothing.
-use Prim.Native.Nat.{ℕ, zero, suc, _+_, _-_, _≤_, _<_}
+use Prim.Native.Nat.{ℕ, zero, suc, _+_, _≤_, _<_}
 use native.Mathlib.Nat.{add-zero, zero-add}
 use native.Mathlib.Omega.{arith}
-use mathlib.Core.Bool.{Bool, true, false, not, cond}
-use mathlib.Core.Path.{_≡_, refl, sym, ap, _∙_}
-use mathlib.Core.List.{List, [], _∷_, map}
+use mathlib.Core.Bool.{Bool, true, false, cond}
+use mathlib.Core.Path.{_≡_, refl}
+use mathlib.Core.List.{List, []}
 use lib.Dec.{eqb, ltb}
-use lib.ListN.{length, replicate}
-use types.Run.{OneOf, miss}
-use denote.Enum.Declared.{tagOf}
-use borrow.Author.Tests.{eq-eqb, ne-eqb, lt-ltb, le-ltb, eqb-true, eqb-false, ltb-true, ltb-false, not-false}
+use lib.ListN.{length}
+use borrow.Author.Tests.{eq-eqb, ne-eqb, eqb-true, eqb-false, ltb-true, ltb-false, not-false}
 use Rattle.wire.specs.Wire.{leAt}
-use Rattle.ray_tracing.specs.Layout.{Seen, Field, layout, total, wide, always, present, any}
-use Rattle.ray_tracing.specs.declared.Judged as code
-use Rattle.ray_tracing.specs.Code.{judgedOf as recordJudged}
 use Rattle.ray_tracing.specs.Reading as reading
 use Rattle.ray_tracing.proofs.Reading.{fields-whole}
-use Rattle.ray_tracing.proofs.GroupsJudged as T
-use Rattle.ray_tracing.specs.declared.GroupsJudged.{GroupsJudged}
-use Rattle.ray_tracing.specs.declared.GroupsJudged.the-variants as groups-judged
-use Rattle.groups_judge.specs.Found.{judgedOf, endOf, Began}
 use Rattle.ray_tracing.specs.Groups.{
   Judged,
   fine,
@@ -27,7 +18,6 @@ use Rattle.ray_tracing.specs.Groups.{
   judgedWhen,
   _andNext_,
   atByte,
-  atItem,
   byByte,
   slotFields,
   isSlot,
@@ -45,7 +35,7 @@ use Rattle.ray_tracing.specs.Groups.{
 
 -- ---- the first of two
 
-refused-not-fine : {n p g i : ℕ} → ¬ (refused n p g i ≡ fine)
+pub refused-not-fine : {n p g i : ℕ} → ¬ (refused n p g i ≡ fine)
 refused-not-fine e =
     let z : _≡_ {A = ℕ} 0 1 = cc in
     omega arith
@@ -86,7 +76,7 @@ module _ (s : List ℕ) (g i at : ℕ) (f : judgeName s g i at ≡ fine) where
   name-earlier = ltb-true (leAt 2 s at) g (not-false _ (when-fine _ 45 0 g i (next-fine (judgedWhen (ltb (length s) (at + 2)) _) _ f)))
 
 -- an item's slot, and what else it may be
-abbrev slotJudged : List ℕ → ℕ → reading.Judged
+abbrev pub slotJudged : List ℕ → ℕ → reading.Judged
 slotJudged s at = reading.judgeFields (reading.begin 0 [] false) s (at + 1) slotFields
 
 abbrev namedJudged : List ℕ → ℕ → ℕ → ℕ → Judged
@@ -172,7 +162,7 @@ from-fine s (suc n) g (suc k) h f =
     rw (← e) (from-fine s n (g + 1) k (omega arith) (next-fine (judgeGroup s g (groupAt s g)) _ f))
 
 -- a group ends inside
-group-inside : (s : List ℕ) (g at : ℕ) → FineGroup s g at → pastItems s (leAt 2 s at) (at + 2) ≤ length s
+pub group-inside : (s : List ℕ) (g at : ℕ) → FineGroup s g at → pastItems s (leAt 2 s at) (at + 2) ≤ length s
 group-inside s g at w = items-inside s g (leAt 2 s at) 0 (at + 2) (w .whole) (w .items)
 
 groups-inside :
@@ -192,15 +182,16 @@ pub record FineGroups (s : List ℕ) : Type 0 where
   pub groups : (g : ℕ) → g < groupCount s → FineGroup s g (groupAt s g)
   pub ends : groupAt s (groupCount s) ≡ length s
 
-module _ (s : List ℕ) (f : judgeGroups s ≡ fine) where
-  abbrev trailing : Judged
-  trailing = judgedWhen (ltb (groupAt s (groupCount s)) (length s)) (refused 3 (groupAt s (groupCount s)) 0 0)
+-- what is judged behind the last group
+abbrev pub behind : List ℕ → Judged
+behind s = judgedWhen (ltb (groupAt s (groupCount s)) (length s)) (atByte 3 (groupAt s (groupCount s)))
 
+module _ (s : List ℕ) (f : judgeGroups s ≡ fine) where
   all-fine :
       (judgedWhen (ltb (length s) 2) (refused 2 0 0 0) ≡ fine)
       × ((judgedWhen (ltb 64 (groupCount s)) (refused 4 0 0 0) ≡ fine)
       × ((judgedWhen (eqb (groupCount s) 0) (refused 45 0 0 0) ≡ fine)
-      × ((judgeFrom s 0 (groupCount s) ≡ fine) × (trailing ≡ fine))))
+      × ((judgeFrom s 0 (groupCount s) ≡ fine) × (behind s ≡ fine))))
   unfolding judgeGroups
   all-fine =
       let a = next-fine (judgedWhen (ltb (length s) 2) _) _ f in
@@ -222,135 +213,3 @@ module _ (s : List ℕ) (f : judgeGroups s ≡ fine) where
         groups = each;
         ends = omega (arith, groups-inside s (groupCount s) whole each, past);
       }
-
--- ---- the code's steps, by what it has tested
-
--- a name
-module _ (s : List ℕ) (g i at : ℕ) where
-  pub name-cut : length s < at + 2 → judgeName s g i at ≡ atByte 2 at
-  name-cut h = rw (lt-ltb (length s) (at + 2) h)
-
-  pub name-good : at + 2 ≤ length s → leAt 2 s at < g → judgeName s g i at ≡ fine
-  name-good h l = rw (le-ltb (length s) (at + 2) h, lt-ltb (leAt 2 s at) g l)
-
-  pub name-late : at + 2 ≤ length s → g ≤ leAt 2 s at → judgeName s g i at ≡ atItem 45 g i
-  name-late h l = rw (le-ltb (length s) (at + 2) h, le-ltb (leAt 2 s at) g l)
-
--- a slot's fields behind its present byte: each may have any value, so only whether they are there counts, and not what is known
-abbrev anys : List ℕ → List Field
-anys ws = map (λ w. wide w (present always) any) ws
-
-any-fine : (ws : List ℕ) (c : Seen) (s : List ℕ) (p : ℕ) → p + total (anys ws) ≤ length s → reading.judgeFields c s p (anys ws) ≡ reading.fine
-unfolding reading.judgeFields
-any-fine [] c s p h = refl
-any-fine (w ∷ ws) c s p h = rw (le-ltb (length s) (p + w) (omega arith)) (any-fine ws c s (p + w) (omega arith))
-
-then-nothing : (j : reading.Judged) → reading._andNext_ j reading.fine ≡ j
-then-nothing reading.fine = refl
-then-nothing (reading.refused n p) = refl
-
-abbrev slotWidths : List ℕ
-slotWidths = 2 ∷ 4 ∷ 1 ∷ replicate 12 4
-
-module _ (s : List ℕ) (at : ℕ) where
-  pub slot-there : at + 56 ≤ length s → slotJudged s at ≡ reading.fine
-  slot-there h = any-fine slotWidths (reading.begin 0 [] false) s (at + 1) (omega arith)
-
-  -- an item whose byte is 1 is judged as a record of section 8: what the code's judge says of it
-  module _ (h : at + 1 ≤ length s) (e : leAt 1 s at ≡ 1) where
-    slot-as-record : (c : Seen) → reading.judgeRecords c (layout 8 .fields) s at 1 ≡ slotJudged s at
-    unfolding reading.judgeFields reading.judgeRecords
-    slot-as-record c = rw (le-ltb (length s) (at + 1) h, e) (then-nothing (slotJudged s at))
-
-    pub slot-judged :
-        (c : Seen) {r q : code.Judged}
-        → recordJudged r ≡ reading.judgeRecords c (layout 8 .fields) s at 1
-        → r ≡ q
-        → byByte (recordJudged q) ≡ byByte (slotJudged s at)
-    slot-judged c f told = ap byByte (sym (ap recordJudged told) ∙ f ∙ slot-as-record c)
-
--- what the code found, and where it ends if that is fine
-abbrev pub Found : GroupsJudged → Judged → ℕ → Type 0
-Found r j e = (judgedOf r ≡ j) × (endOf r e ≡ e)
-
--- an item
-module _ (s : List ℕ) (g i at : ℕ) where
-  pub item-cut : length s ≤ at → judgeItem s g i at ≡ atByte 2 at
-  unfolding judgeItem
-  item-cut h = rw (lt-ltb (length s) (at + 1) (omega arith))
-
-  module _ (h : at < length s) where
-    pub item-slot : (r : GroupsJudged) → leAt 1 s at ≡ 1 → Found r (byByte (slotJudged s at)) (at + 56) → Found r (judgeItem s g i at) (at + itemSize s at)
-    unfolding judgeItem
-    item-slot r e f = rw (size-slot s at e, le-ltb (length s) (at + 1) (omega arith), eq-eqb (leAt 1 s at) 1 e) f
-
-    pub item-named : (r : GroupsJudged) → leAt 1 s at ≡ 2 → Found r (judgeName s g i (at + 1)) (at + 1 + 2) → Found r (judgeItem s g i at) (at + itemSize s at)
-    unfolding judgeItem
-    item-named r e f =
-        let z : at + 1 + 2 ≡ at + 3 = omega arith in
-        rw (size-named s at (λ d. omega (arith, e, d)), le-ltb (length s) (at + 1) (omega arith), e, ← z) f
-
-    pub item-other : ¬ (leAt 1 s at ≡ 1) → ¬ (leAt 1 s at ≡ 2) → judgeItem s g i at ≡ atByte 5 at
-    unfolding judgeItem
-    item-other d f = rw (le-ltb (length s) (at + 1) (omega arith), ne-eqb (leAt 1 s at) 1 d, ne-eqb (leAt 1 s at) 2 f)
-
--- what is refused is so whatever follows, and ends nowhere
-pub stops : (r : GroupsJudged) (j next : Judged) (e : ℕ) → OneOf (1 ∷ 2 ∷ []) (tagOf T.the-type r) → judgedOf r ≡ j → Found r (j andNext next) e
-stops (groups-judged.EndsAt p) j next e k f = absurd (miss (1 ∷ 2 ∷ []) 0 tt k)
-stops (groups-judged.Refused n p) j next e k f = (rw (← f), refl)
-stops (groups-judged.InvalidGroup g i) j next e k f = (rw (← f), refl)
-
--- what is fine ends where it is to
-goes : (r : GroupsJudged) {j : Judged} (e : ℕ) {p : ℕ} → Found r j e → r ≡ groups-judged.EndsAt p → (j ≡ fine) × (p ≡ e)
-goes r e f told = (sym (f .0) ∙ ap judgedOf told, ap (λ q. endOf q e) (sym told) ∙ f .1)
-
-one-left : (count i : ℕ) → i < count → count - i ≡ suc (count - (i + 1))
-one-left count i h = omega arith
-
--- a group that is cut, and one of no items
-module _ (s : List ℕ) (g start : ℕ) where
-  pub group-cut : length s < start + 2 → judgeGroup s g start ≡ atByte 2 start
-  unfolding judgeGroup
-  group-cut h = rw (lt-ltb (length s) (start + 2) h)
-
-  pub group-none : start + 2 ≤ length s → leAt 2 s start ≡ 0 → judgeGroup s g start ≡ atItem 45 g 0
-  unfolding judgeGroup
-  group-none h e = rw (le-ltb (length s) (start + 2) h, e)
-
--- a group, item by item: what is left to judge is judged as the whole, and ends where it does
-module _ (s : List ℕ) (g start count : ℕ) where
-  pub record Left (i at : ℕ) : Type 0 where
-    pub judged : judgeGroup s g start ≡ judgeItems s g (count - i) i at
-    pub ends : pastItems s (leAt 2 s start) (start + 2) ≡ pastItems s (count - i) at
-
-  pub left-all : start + 2 ≤ length s → count ≡ leAt 2 s start → ¬ (count ≡ 0) → Left 0 (start + 2)
-  unfolding judgeGroup
-  left-all h e some =
-      let z : count - 0 ≡ leAt 2 s start = omega (arith, e) in
-      record {
-        judged = rw (le-ltb (length s) (start + 2) h, ne-eqb (leAt 2 s start) 0 (λ d. some (e ∙ d)), z);
-        ends = rw z;
-      }
-
-  module _ (i at : ℕ) (left : Left i at) where
-    pub left-none : count ≤ i → Found (groups-judged.EndsAt at) (judgeGroup s g start) (pastItems s (leAt 2 s start) (start + 2))
-    unfolding judgeItems pastItems
-    left-none h =
-        let z : count - i ≡ 0 = omega arith in
-        (sym (rw z at (left .judged)), sym (rw z at (left .ends)))
-
-    module _ (h : i < count) (r : GroupsJudged) (f : Found r (judgeItem s g i at) (at + itemSize s at)) where
-      pub left-stop : OneOf (1 ∷ 2 ∷ []) (tagOf T.the-type r) → Found r (judgeGroup s g start) (pastItems s (leAt 2 s start) (start + 2))
-      unfolding judgeItems
-      left-stop k = rw (left .judged, one-left count i h) (stops r _ _ _ k (f .0))
-
-      pub left-more : {e : ℕ} → r ≡ groups-judged.EndsAt e → (e ≤ length s) × Left (i + 1) e
-      unfolding judgeItems pastItems
-      left-more told =
-          let w = goes r (at + itemSize s at) f told in (
-            rw (w .1) (item-inside s g i at (w .0)),
-            record {
-              judged = rw (left .judged, one-left count i h, w .0, w .1);
-              ends = rw (left .ends, one-left count i h, w .1);
-            },
-          )

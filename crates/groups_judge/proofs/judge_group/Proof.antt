@@ -4,7 +4,7 @@ use mathlib.Core.Path.{refl, sym}
 use native.Mathlib.Omega.{arith}
 use borrow.Author.Needs.{needs}
 use lib.ListN.{length}
-use Rattle.groups_judge.proofs.Laws.{group-cut, group-none, Left, left-all, left-none, left-stop, left-more}
+use Rattle.groups_judge.proofs.Steps.{group-cut, group-none, Left, left-all, left-none, left-stop, left-more}
 use Rattle.groups_judge.proofs.judge_group.Statement.{statement}
 use Rattle.groups_judge.proofs.judge_group.Tie as tie
 

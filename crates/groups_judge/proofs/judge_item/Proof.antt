@@ -2,7 +2,7 @@
 use mathlib.Core.Path.{refl, sym, _∙_}
 use native.Mathlib.Omega.{arith}
 use borrow.Author.Needs.{needs}
-use Rattle.groups_judge.proofs.Laws.{item-cut, item-slot, item-named, item-other}
+use Rattle.groups_judge.proofs.Steps.{item-cut, item-slot, item-named, item-other}
 use Rattle.groups_judge.proofs.judge_item.Statement.{statement}
 use Rattle.groups_judge.proofs.judge_item.Tie as tie
 

@@ -2,7 +2,7 @@
 use mathlib.Core.Path.{refl, sym}
 use native.Mathlib.Omega.{arith}
 use borrow.Author.Needs.{needs}
-use Rattle.groups_judge.proofs.Laws.{name-cut, name-good, name-late}
+use Rattle.groups_judge.proofs.Steps.{name-cut, name-good, name-late}
 use Rattle.groups_judge.proofs.judge_name.Statement.{statement}
 use Rattle.groups_judge.proofs.judge_name.Tie as tie
 

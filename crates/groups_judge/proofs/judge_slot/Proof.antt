@@ -3,7 +3,7 @@ use mathlib.Core.Path.{refl, sym, ap}
 use native.Mathlib.Omega.{arith}
 use borrow.Author.Needs.{needs}
 use Rattle.ray_tracing.specs.Groups.{byByte}
-use Rattle.groups_judge.proofs.Laws.{slot-there, slot-judged}
+use Rattle.groups_judge.proofs.Steps.{slot-there, slot-judged}
 use Rattle.groups_judge.proofs.judge_slot.Statement.{statement}
 use Rattle.groups_judge.proofs.judge_slot.Tie as tie
 
