@@ -25,24 +25,24 @@ returns-2 c =
     (sym (group-none (a .groups .now) (a .group) (a .start) (omega arith) (omega (arith, c .before .u16-at .ensures))), refl)
 
 loop-holds : tie.Need-loop-holds Inv-loop μ-loop
-loop-holds c = (omega arith, omega arith, left-all _ _ _ _ (omega arith) (c .before .u16-at .ensures) (c .if2 .left))
+loop-holds c = (omega arith, omega arith, left-all _ _ _ _ (omega arith) (c .before .u16-at .ensures) (λ z. omega arith))
 
 returns-3 : tie.Need-returns-3 Inv-loop μ-loop
 returns-3 c =
     let l = c .before .before .before .loop in
-    left-stop _ _ _ _ (l .i) _ (l .inv .2) (c .before .before .loop-test .taken) (c .before .judge-item .result) (c .before .judge-item .ensures) (c .match .keys2)
+    left-stop _ _ _ _ (l .i) _ (l .inv .2) (omega arith) (c .before .judge-item .result) (c .before .judge-item .ensures) (c .match .keys2)
 
 loop-again : tie.Need-loop-again Inv-loop μ-loop
 loop-again c =
     let l = c .before .before .before .before .before .loop in
     let called = c .before .before .before .judge-item in
-    let next = left-more _ _ _ _ (l .i) _ (l .inv .2) (c .before .before .before .before .loop-test .taken) (called .result) (called .ensures) (c .before .judged .given .1) in
+    let next = left-more _ _ _ _ (l .i) _ (l .inv .2) (omega arith) (called .result) (called .ensures) (c .before .judged .given .1) in
     (omega arith, next .0, next .1)
 
 returns-4 : tie.Need-returns-4 Inv-loop μ-loop
 returns-4 c =
     let l = c .before .loop in
-    left-none _ _ _ _ (l .i) _ (l .inv .2) (c .loop-test .left)
+    left-none _ _ _ _ (l .i) _ (l .inv .2) (omega arith)
 
 pub judge-group-spec : {M : Type 1} → statement M
 judge-group-spec =

@@ -17,22 +17,24 @@ abbrev μ-loop : tie.MeasureT-loop
 μ-loop groups starts₀ count at₀ g₀ starts at g = count - g
 
 returns : tie.Need-returns Inv-loop μ-loop
-returns c = refuses _ (c .before .before .before .args .starts .now) (groups-cut _ (c .if1 .taken))
+returns c =
+    let a = c .before .before .before .args in
+    refuses _ (a .starts .now) (groups-cut (a .groups .now) (omega arith))
 
 returns-2 : tie.Need-returns-2 Inv-loop μ-loop
 returns-2 c =
     let a = c .before .before .before .before .before .args in
-    refuses _ (a .starts .now) (groups-many (a .groups .now) (c .before .before .if1 .left) (omega (arith, c .before .u16-at .ensures)))
+    refuses _ (a .starts .now) (groups-many (a .groups .now) (omega arith) (omega (arith, c .before .u16-at .ensures)))
 
 returns-3 : tie.Need-returns-3 Inv-loop μ-loop
 returns-3 c =
     let a = c .before .before .before .before .before .before .args in
-    refuses _ (a .starts .now) (groups-none (a .groups .now) (c .before .before .before .if1 .left) (omega (arith, c .before .before .u16-at .ensures)))
+    refuses _ (a .starts .now) (groups-none (a .groups .now) (omega arith) (omega (arith, c .before .before .u16-at .ensures)))
 
 loop-holds : tie.Need-loop-holds Inv-loop μ-loop
 loop-holds c =
     let e = c .before .before .u16-at .ensures in
-    (omega arith, omega arith, refl, ahead-all _ _ (c .before .before .before .if1 .left) (omega (arith, e)) (λ z. c .if3 .left (omega (arith, e, z))))
+    (omega arith, omega arith, refl, ahead-all _ _ (omega arith) (omega (arith, e)) (λ z. c .if3 .left (omega (arith, e, z))))
 
 returns-4 : tie.Need-returns-4 Inv-loop μ-loop
 returns-4 c =
@@ -53,13 +55,13 @@ returns-5 : tie.Need-returns-5 Inv-loop μ-loop
 returns-5 c =
     let l = c .before .before .loop in
     let count = c .before .before .before .before .before .u16-at .ensures in
-    refuses _ (l .starts) (ahead-trailing _ _ (l .g) _ (l .inv .3) (omega arith) (c .if4 .taken))
+    refuses _ (l .starts) (ahead-trailing _ _ (l .g) _ (l .inv .3) (omega arith) (omega arith))
 
 returns-6 : tie.Need-returns-6 Inv-loop μ-loop
 returns-6 c =
     let l = c .before .before .loop in
     let count = c .before .before .before .before .before .u16-at .ensures in
-    ahead-none _ _ (l .g) _ (l .inv .3) (omega arith) (c .if4 .left)
+    ahead-none _ _ (l .g) _ (l .inv .3) (omega arith) (omega arith)
 
 pub judge-groups-spec : {M : Type 1} → statement M
 judge-groups-spec =

@@ -14,17 +14,17 @@ returns c =
 returns-2 : tie.Need-returns-2
 returns-2 c =
     let byte = c .before .before .u8-at .ensures in
-    item-slot _ _ _ _ (c .before .before .before .if1 .left) (c .judge-slot .result) (sym byte ∙ c .before .match .keys1) (c .judge-slot .ensures)
+    item-slot _ _ _ _ (omega arith) (c .judge-slot .result) (omega (arith, byte, c .before .match .keys1)) (c .judge-slot .ensures)
 
 returns-3 : tie.Need-returns-3
 returns-3 c =
     let byte = c .before .before .u8-at .ensures in
-    item-named _ _ _ _ (c .before .before .before .if1 .left) (c .judge-name .result) (sym byte ∙ c .before .match .keys2) (c .judge-name .ensures)
+    item-named _ _ _ _ (omega arith) (c .judge-name .result) (omega (arith, byte, c .before .match .keys2)) (c .judge-name .ensures)
 
 returns-4 : tie.Need-returns-4
 returns-4 c =
     let byte = c .before .u8-at .ensures in
-    (sym (item-other _ _ _ _ (c .before .before .if1 .left) (λ e. c .match .rest .0 .1 (byte ∙ e)) (λ e. c .match .rest .1 (byte ∙ e))), refl)
+    (sym (item-other _ _ _ _ (omega arith) (λ e. c .match .rest .0 .1 (byte ∙ e)) (λ e. c .match .rest .1 (byte ∙ e))), refl)
 
 pub judge-item-spec : {M : Type 1} → statement M
 judge-item-spec =
