@@ -2,7 +2,7 @@
 use Prim.Native.Nat.{ℕ, zero, suc, _+_, _≤_, _<_}
 use native.Mathlib.Nat.{add-zero, zero-add}
 use native.Mathlib.Omega.{arith}
-use mathlib.Core.Bool.{Bool, true, false, not, cond}
+use mathlib.Core.Bool.{Bool, true, false, cond}
 use mathlib.Core.Path.{_≡_, refl}
 use mathlib.Core.List.{List, []}
 use lib.Dec.{eqb, ltb}
@@ -17,6 +17,7 @@ use Rattle.ray_tracing.specs.Groups.{
   refused,
   judgedWhen,
   _andNext_,
+  atByte,
   byByte,
   slotFields,
   isSlot,
@@ -34,7 +35,7 @@ use Rattle.ray_tracing.specs.Groups.{
 
 -- ---- the first of two
 
-refused-not-fine : {n p g i : ℕ} → ¬ (refused n p g i ≡ fine)
+pub refused-not-fine : {n p g i : ℕ} → ¬ (refused n p g i ≡ fine)
 refused-not-fine e =
     let z : _≡_ {A = ℕ} 0 1 = cc in
     omega arith
@@ -75,7 +76,7 @@ module _ (s : List ℕ) (g i at : ℕ) (f : judgeName s g i at ≡ fine) where
   name-earlier = ltb-true (leAt 2 s at) g (not-false _ (when-fine _ 45 0 g i (next-fine (judgedWhen (ltb (length s) (at + 2)) _) _ f)))
 
 -- an item's slot, and what else it may be
-abbrev slotJudged : List ℕ → ℕ → reading.Judged
+abbrev pub slotJudged : List ℕ → ℕ → reading.Judged
 slotJudged s at = reading.judgeFields (reading.begin 0 [] false) s (at + 1) slotFields
 
 abbrev namedJudged : List ℕ → ℕ → ℕ → ℕ → Judged
@@ -161,7 +162,7 @@ from-fine s (suc n) g (suc k) h f =
     rw (← e) (from-fine s n (g + 1) k (omega arith) (next-fine (judgeGroup s g (groupAt s g)) _ f))
 
 -- a group ends inside
-group-inside : (s : List ℕ) (g at : ℕ) → FineGroup s g at → pastItems s (leAt 2 s at) (at + 2) ≤ length s
+pub group-inside : (s : List ℕ) (g at : ℕ) → FineGroup s g at → pastItems s (leAt 2 s at) (at + 2) ≤ length s
 group-inside s g at w = items-inside s g (leAt 2 s at) 0 (at + 2) (w .whole) (w .items)
 
 groups-inside :
@@ -181,15 +182,16 @@ pub record FineGroups (s : List ℕ) : Type 0 where
   pub groups : (g : ℕ) → g < groupCount s → FineGroup s g (groupAt s g)
   pub ends : groupAt s (groupCount s) ≡ length s
 
-module _ (s : List ℕ) (f : judgeGroups s ≡ fine) where
-  abbrev trailing : Judged
-  trailing = judgedWhen (ltb (groupAt s (groupCount s)) (length s)) (refused 3 (groupAt s (groupCount s)) 0 0)
+-- what is judged behind the last group
+abbrev pub behind : List ℕ → Judged
+behind s = judgedWhen (ltb (groupAt s (groupCount s)) (length s)) (atByte 3 (groupAt s (groupCount s)))
 
+module _ (s : List ℕ) (f : judgeGroups s ≡ fine) where
   all-fine :
       (judgedWhen (ltb (length s) 2) (refused 2 0 0 0) ≡ fine)
       × ((judgedWhen (ltb 64 (groupCount s)) (refused 4 0 0 0) ≡ fine)
       × ((judgedWhen (eqb (groupCount s) 0) (refused 45 0 0 0) ≡ fine)
-      × ((judgeFrom s 0 (groupCount s) ≡ fine) × (trailing ≡ fine))))
+      × ((judgeFrom s 0 (groupCount s) ≡ fine) × (behind s ≡ fine))))
   unfolding judgeGroups
   all-fine =
       let a = next-fine (judgedWhen (ltb (length s) 2) _) _ f in
