@@ -6,7 +6,7 @@ use mathlib.Core.Bool.{Bool, true, false, cond}
 use mathlib.Core.List.{List, [], _∷_, _++_, map, map-append}
 use lib.Dec.{ltb}
 use lib.ListN.{length, getD, set, take, drop, length-map}
-use lib.Seq.{sets, sets-eq, take-all, take-nil, take-at, drop-nil, take-append-le, take-append-add}
+use lib.Seq.{sets, sets-eq, take-all, take-at, drop-nil, take-append-le, take-append-add}
 use borrow.Author.Tests.{lt-ltb, le-ltb, ltb-true, ltb-false}
 use Rattle.wire.specs.Wire.{leAt}
 use Rattle.wire.proofs.Laws.{sets-append}
@@ -20,6 +20,29 @@ use Rattle.groups_open.specs.Places.{counted, placed, Judged}
 
 -- Counted
 
+under : {A : Type 0} (n m : ℕ) (a b : A) → n < m → cond (ltb n m) a b ≡ a
+under n m a b h = rw (lt-ltb n m h)
+
+over : {A : Type 0} (n m : ℕ) (a b : A) → m ≤ n → cond (ltb n m) a b ≡ b
+over n m a b h = rw (le-ltb n m h)
+
+-- a slot, where there is room for it; and where there is none
+module _ (n : ℕ) (x : Slot) (xs : List Slot) where
+  counted-next : n < 512 → counted n (x ∷ xs) ≡ counted (n + 1) xs
+  unfolding counted
+  counted-next h = under n _ _ _ (omega (arith, h))
+
+  counted-last : 512 ≤ n → counted n (x ∷ xs) ≡ Full (x .group) (x .item)
+  unfolding counted
+  counted-last h = over n _ _ _ (omega (arith, h))
+
+by-room : {A : Type 0} (n : ℕ) → (n < 512 → A) → (512 ≤ n → A) → A
+by-room {A} n f g = go (ltb n 512) refl
+  where
+    go : (b : Bool) → ltb n 512 ≡ b → A
+    go true e = f (ltb-true n 512 e)
+    go false e = g (ltb-false n 512 e)
+
 abbrev then : Opened → List Slot → Opened
 then (Slots k) xs = counted k xs
 then (Full g i) xs = Full g i
@@ -27,12 +50,10 @@ then (Full g i) xs = Full g i
 counted-append : (n : ℕ) (xs ys : List Slot) → counted n (xs ++ ys) ≡ then (counted n xs) ys
 unfolding counted
 counted-append n [] ys = refl
-counted-append n (x ∷ xs) ys = go (ltb n 512) (counted-append (n + 1) xs ys)
-  where
-    go : (b : Bool) → counted (n + 1) (xs ++ ys) ≡ then (counted (n + 1) xs) ys
-        → cond b (counted (n + 1) (xs ++ ys)) (Full (x .group) (x .item)) ≡ then (cond b (counted (n + 1) xs) (Full (x .group) (x .item))) ys
-    go true rec = rec
-    go false rec = refl
+counted-append n (x ∷ xs) ys =
+    by-room n
+    (λ h. counted-next n x (xs ++ ys) h ∙ counted-append (n + 1) xs ys ∙ ap (λ (r : Opened). then r ys) (sym (counted-next n x xs h)))
+    (λ h. counted-last n x (xs ++ ys) h ∙ ap (λ (r : Opened). then r ys) (sym (counted-last n x xs h)))
 
 module _ (n : ℕ) (xs ys : List Slot) where
   pub counted-then : (k : ℕ) → counted n xs ≡ Slots k → counted n (xs ++ ys) ≡ counted k ys
@@ -41,15 +62,18 @@ module _ (n : ℕ) (xs ys : List Slot) where
   pub counted-stop : (g i : ℕ) → counted n xs ≡ Full g i → counted n (xs ++ ys) ≡ Full g i
   counted-stop g i e = counted-append n xs ys ∙ ap (λ (r : Opened). then r ys) e
 
+full-not-slots : {g i k : ℕ} → ¬ (Full g i ≡ Slots k)
+full-not-slots e =
+    let z : _≡_ {A = ℕ} 0 1 = cc in
+    omega arith
+
 pub counted-all : (n k : ℕ) (xs : List Slot) → n ≤ 512 → counted n xs ≡ Slots k → (k ≡ n + length xs) × (k ≤ 512)
 unfolding counted
 counted-all n k [] h e = let q : n ≡ k = cc in omega arith
-counted-all n k (x ∷ xs) h e = go (ltb n 512) refl e (counted-all (n + 1) k xs)
-  where
-    go : (b : Bool) → ltb n 512 ≡ b → cond b (counted (n + 1) xs) (Full (x .group) (x .item)) ≡ Slots k
-        → (n + 1 ≤ 512 → counted (n + 1) xs ≡ Slots k → (k ≡ n + 1 + length xs) × (k ≤ 512)) → (k ≡ n + suc (length xs)) × (k ≤ 512)
-    go true l q rec = let w = rec (omega (arith, ltb-true n 512 l)) q in omega (arith, w .0, w .1)
-    go false l q rec = let z : _≡_ {A = ℕ} 0 1 = cc in absurd (omega arith)
+counted-all n k (x ∷ xs) h e =
+    by-room n
+    (λ u. let w = counted-all (n + 1) k xs (omega (arith, u)) (sym (counted-next n x xs u) ∙ e) in omega (arith, w .0, w .1))
+    (λ o. absurd (full-not-slots (sym (counted-last n x xs o) ∙ e)))
 
 -- the one that is too many is what `judgeMost` finds
 abbrev overOf : Opened → groups.Judged
@@ -59,16 +83,14 @@ overOf (Full g i) = atItem 46 g i
 counted-most : (n : ℕ) (xs : List Slot) → n ≤ 512 → atFirst 46 (drop (512 - n) xs) ≡ overOf (counted n xs)
 unfolding counted
 counted-most n [] h = ap (atFirst 46) (drop-nil (512 - n))
-counted-most n (x ∷ xs) h = go (ltb n 512) refl (counted-most (n + 1) xs)
-  where
-    go : (b : Bool) → ltb n 512 ≡ b → (n + 1 ≤ 512 → atFirst 46 (drop (512 - (n + 1)) xs) ≡ overOf (counted (n + 1) xs))
-        → atFirst 46 (drop (512 - n) (x ∷ xs)) ≡ overOf (cond b (counted (n + 1) xs) (Full (x .group) (x .item)))
-    go true l rec =
-        let under = ltb-true n 512 l in
-        let e : 512 - n ≡ suc (512 - (n + 1)) = omega (arith, under) in
-        ap (λ (k : ℕ). atFirst 46 (drop k (x ∷ xs))) e ∙ rec (omega (arith, under))
-    go false l rec =
-        let e : 512 - n ≡ 0 = omega (arith, ltb-false n 512 l) in ap (λ (k : ℕ). atFirst 46 (drop k (x ∷ xs))) e
+counted-most n (x ∷ xs) h =
+    by-room n
+    (λ u.
+    let e : 512 - n ≡ suc (512 - (n + 1)) = omega (arith, u) in
+    ap (λ (k : ℕ). atFirst 46 (drop k (x ∷ xs))) e ∙ counted-most (n + 1) xs (omega (arith, u)) ∙ ap overOf (sym (counted-next n x xs u)))
+    (λ o.
+    let e : 512 - n ≡ 0 = omega (arith, o) in
+    ap (λ (k : ℕ). atFirst 46 (drop k (x ∷ xs))) e ∙ ap overOf (sym (counted-last n x xs o)))
 
 pub counted-over : (xs : List Slot) (g i : ℕ) → counted 0 xs ≡ Full g i → judgeMost xs ≡ atItem 46 g i
 counted-over xs g i e = counted-most 0 xs (omega arith) ∙ ap overOf e
@@ -79,35 +101,28 @@ counted-fine xs k e = counted-most 0 xs (omega arith) ∙ ap overOf e
 -- one too many fill what is left
 counted-fills : (n g i : ℕ) (xs : List Slot) → counted n xs ≡ Full g i → 512 - n ≤ length xs
 unfolding counted
-counted-fills n g i [] e = let z : _≡_ {A = ℕ} 0 1 = cc in absurd (omega arith)
-counted-fills n g i (x ∷ xs) e = go (ltb n 512) refl e (counted-fills (n + 1) g i xs)
-  where
-    go : (b : Bool) → ltb n 512 ≡ b → cond b (counted (n + 1) xs) (Full (x .group) (x .item)) ≡ Full g i
-        → (counted (n + 1) xs ≡ Full g i → 512 - (n + 1) ≤ length xs) → 512 - n ≤ suc (length xs)
-    go true l q rec = omega (arith, rec q)
-    go false l q rec = omega (arith, ltb-false n 512 l)
+counted-fills n g i [] e = absurd (full-not-slots (sym e))
+counted-fills n g i (x ∷ xs) e =
+    by-room n
+    (λ u. let w = counted-fills (n + 1) g i xs (sym (counted-next n x xs u) ∙ e) in omega (arith, w))
+    (λ o. omega (arith, o))
 
 -- Placed
 
 abbrev places : List Slot → List ℕ
 places xs = map (λ (x : Slot). x .at) xs
 
+-- slots for which there is room
+placed-these : (n : ℕ) (xs : List Slot) (out : List ℕ) → n + length xs ≤ 512 → placed n xs out ≡ sets out n (places xs)
+unfolding placed
+placed-these n xs out h = ap (λ (ys : List Slot). sets out n (places ys)) (take-all (512 - n) xs (omega (arith, h)))
+
 pub placed-all : (xs : List Slot) (out : List ℕ) → length xs ≤ 512 → 512 ≤ length out
     → take (length xs) (placed 0 xs out) ≡ map (λ (x : Slot). x .at) xs
-unfolding placed
 placed-all xs out h room =
     let size : length (places xs) ≡ length xs = length-map xs _ in
-    ap (λ (ys : List Slot). take (length xs) (sets out 0 (places ys))) (take-all 512 xs h)
-    ∙ ap (take (length xs)) (sets-eq (places xs) out 0 (omega (arith, size)))
+    ap (take (length xs)) (placed-these 0 xs out (omega arith) ∙ sets-eq (places xs) out 0 (omega (arith, size)))
     ∙ take-at (places xs) _ (length xs) size
-
-placed-none : (n : ℕ) (out : List ℕ) → placed n [] out ≡ out
-unfolding placed
-placed-none n out = rw take-nil
-
-placed-one : (n : ℕ) (x : Slot) (out : List ℕ) → n < 512 → placed n (x ∷ []) out ≡ set out n (x .at)
-unfolding placed
-placed-one n x out h = ap (λ (xs : List Slot). sets out n (places xs)) (take-all (512 - n) (x ∷ []) (omega arith))
 
 placed-full : (n : ℕ) (xs : List Slot) (out : List ℕ) → 512 ≤ n → placed n xs out ≡ out
 unfolding placed
@@ -119,14 +134,13 @@ module _ (n : ℕ) (xs ys : List Slot) (out : List ℕ) where
   placed-then k most e =
       let w = counted-all n k xs most e in
       let room : 512 - n ≡ length xs + (512 - k) = omega (arith, w .0, w .1) in
-      let all : take (512 - n) xs ≡ xs = take-all (512 - n) xs (omega (arith, w .0, w .1)) in
       let next : n + length (places xs) ≡ k = omega (arith, w .0, length-map xs (λ (x : Slot). x .at)) in
       ap (λ (m : ℕ). sets out n (places (take m (xs ++ ys)))) room
       ∙ ap (λ (l : List Slot). sets out n (places l)) (take-append-add xs ys (512 - k))
       ∙ ap (sets out n) (map-append _ xs (take (512 - k) ys))
       ∙ sym (sets-append (places xs) (places (take (512 - k) ys)) out n)
       ∙ ap (λ (m : ℕ). sets (sets out n (places xs)) m (places (take (512 - k) ys))) next
-      ∙ ap (λ (l : List Slot). sets (sets out n (places l)) k (places (take (512 - k) ys))) (sym all)
+      ∙ ap (placed k ys) (sym (placed-these n xs out (omega (arith, w .0, w .1))))
 
   placed-stop : (g i : ℕ) → counted n xs ≡ Full g i → placed n (xs ++ ys) out ≡ placed n xs out
   unfolding placed
@@ -134,7 +148,7 @@ module _ (n : ℕ) (xs ys : List Slot) (out : List ℕ) where
 
 -- An item
 
--- what opening these slots after n others is to give
+-- what opening is to give, if it comes to these slots
 abbrev pub Given : ℕ → List Slot → List ℕ → Opened → List ℕ → Type 0
 Given n xs out r after = (r ≡ counted n xs) × (after ≡ placed n xs out)
 
@@ -145,16 +159,16 @@ module _ (s : List ℕ) (g i at n : ℕ) (out : List ℕ) where
   pub item-room : leAt 1 s at ≡ 1 → n < 512 → Given n (opened s g i at) out (Slots (n + 1)) (set out n at)
   unfolding counted
   item-room e h =
-      let one = item-slot s g i at (openBelow (groupOf s) g) e in
-      let more : counted n (record { group = g; item = i; at = at } ∷ []) ≡ Slots (n + 1) = rw (lt-ltb n 512 h) in
-      (sym (ap (counted n) one ∙ more), sym (ap (λ (l : List Slot). placed n l out) one ∙ placed-one n _ out h))
+      let x : Slot = record { group = g; item = i; at = at } in
+      let one = item-slot s g i at (openBelow (groupOf s) g) e in (
+        sym (ap (counted n) one ∙ counted-next n x [] h),
+        sym (ap (λ (l : List Slot). placed n l out) one ∙ placed-these n (x ∷ []) out (omega (arith, h))),
+      )
 
   pub item-full : leAt 1 s at ≡ 1 → 512 ≤ n → Given n (opened s g i at) out (Full g i) out
-  unfolding counted
   item-full e h =
       let one = item-slot s g i at (openBelow (groupOf s) g) e in
-      let over : counted n (record { group = g; item = i; at = at } ∷ []) ≡ Full g i = rw (le-ltb n 512 h) in
-      (sym (ap (counted n) one ∙ over), sym (placed-full n _ out h))
+      (sym (ap (counted n) one ∙ counted-last n _ [] h), sym (placed-full n _ out h))
 
   pub item-group : ¬ (leAt 1 s at ≡ 1) → (h : ℕ) → h ≡ leAt 2 s (at + 1) → h < g → (r : Opened) (after : List ℕ)
       → Given n (openGroup (groupOf s) h) out r after → Given n (opened s g i at) out r after
@@ -212,16 +226,16 @@ module _ (s : List ℕ) (g count n : ℕ) (out₀ : List ℕ) where
       group-items s g ∙ (λ j. openItems (openBelow (groupOf s) g) (itemsOf s g (z j) 0 (sym p j + 2))) in
       record { answer = ap (counted n) all; places = ap (λ (l : List Slot). placed n l out₀) all }
 
-  module _ (out : List ℕ) (total at i : ℕ) (rest : Rest out total at i) where
+  module _ (out : List ℕ) (total at i : ℕ) (rest : Rest out total at i) (most : total ≤ 512) where
     pub rest-none : count ≤ i → Given n (openGroup (groupOf s) g) out₀ (Slots total) out
     unfolding counted
     rest-none h =
         let none = items-none s g i at (openBelow (groupOf s) g) count h in (
           sym (rest .answer ∙ ap (counted total) none),
-          sym (rest .places ∙ ap (λ (l : List Slot). placed total l out) none ∙ placed-none total out),
+          sym (rest .places ∙ ap (λ (l : List Slot). placed total l out) none ∙ placed-these total [] out (omega (arith, most))),
         )
 
-    module _ (h : i < count) (most : total ≤ 512) (r : Opened) (after : List ℕ) (given : Given total (opened s g i at) out r after) where
+    module _ (h : i < count) (r : Opened) (after : List ℕ) (given : Given total (opened s g i at) out r after) where
       more : left s g count at i ≡ opened s g i at ++ left s g count (at + itemSize s at) (i + 1)
       more = items-more s g i at (openBelow (groupOf s) g) count h
 

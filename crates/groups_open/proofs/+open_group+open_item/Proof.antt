@@ -4,7 +4,7 @@
 use Prim.Native.Nat.{ℕ, _+_, _*_, _-_, _<_, _≤_}
 use native.Mathlib.Omega.{arith}
 use mathlib.Core.Path.{_≡_, refl, sym, _∙_}
-use lib.ListN.{length, length-set}
+use lib.ListN.{length}
 use borrow.Author.Needs.{needs}
 use borrow.Fn.Kinds.{In}
 use borrow.Fn.PlainCycle.{Measures, is, falls, and}
@@ -96,7 +96,7 @@ pub +open-group+open-item-spec : {M : Type 1} → statement M
     let in-table = start .pre .1 .0 .1 in
     let count = c .u16-at .ensures in (
       omega arith,
-      start .pre .1 .1 .1,
+      omega (arith, start .pre .1 .1 .1),
       refl,
       fine-all _ _ _ _ (group-fine _ _ _ judged in-table) count,
       rest-all _ _ _ _ _ _ (judged .place _ in-table) count,
@@ -119,7 +119,7 @@ pub +open-group+open-item-spec : {M : Type 1} → statement M
     (λ c. let turn = c .before .before .before .before .before .before in
     let l = turn .before .loop in
     let called = c .before .before .before .before .open-item in
-    rest-stop _ _ _ _ _ (l .places) (l .total) (l .at) (l .i) (l .inv .4) (turn .loop-test .taken) (l .inv .1) (called .result) _
+    rest-stop _ _ _ _ _ (l .places) (l .total) (l .at) (l .i) (l .inv .4) (l .inv .1) (turn .loop-test .taken) (called .result) _
     (called .ensures .0, called .ensures .1) _ _ (c .enum-told .given .1))
     -- item-size-requires
     (λ c κs. let turn = c .before .before .before .before .before .before .before in
@@ -143,7 +143,7 @@ pub +open-group+open-item-spec : {M : Type 1} → statement M
     let more = turn .loop-test .taken in
     let called = c .before .before .before .before .before .before .open-item in
     let size = c .item-size .ensures in
-    let next = rest-more _ _ _ _ _ (l .places) (l .total) (l .at) (l .i) (l .inv .4) more (l .inv .1) (called .result) _
+    let next = rest-more _ _ _ _ _ (l .places) (l .total) (l .at) (l .i) (l .inv .4) (l .inv .1) more (called .result) _
     (called .ensures .0, called .ensures .1) _ _ size (c .before .before .opened .given .1) in (
       omega (arith, more),
       next .0,
@@ -154,7 +154,7 @@ pub +open-group+open-item-spec : {M : Type 1} → statement M
     -- same-length-2
     (λ c. c .before .loop .inv .2)
     -- returns-2
-    (λ c. let l = c .before .loop in rest-none _ _ _ _ _ _ _ _ (l .i) (l .inv .4) (c .loop-test .left)))
+    (λ c. let l = c .before .loop in rest-none _ _ _ _ _ _ _ _ (l .i) (l .inv .4) (l .inv .1) (c .loop-test .left)))
     (λ t. open-item-lts.spec (
       u8-at-reads.Asked,
       u8-at-reads.Learnt,
@@ -202,7 +202,7 @@ pub +open-group+open-item-spec : {M : Type 1} → statement M
     (λ c. omega (arith, c .if2 .taken, c .before .before .before .before .before .before .pre .1 .1 .0))
     (λ c. omega (arith, c .if2 .taken))
     -- same-length-2
-    (λ c. let a = c .before .before .before .before .before .before .args in length-set (a .places .now) (a .n) (a .at))
+    (λ c. search needs)
     -- returns-2, returns-3
     (λ c. item-room _ _ _ _ _ _ (sym (c .before .before .u8-at .ensures) ∙ c .before .if1 .left) (c .if2 .taken))
     (λ c. item-full _ _ _ _ _ _ (sym (c .before .before .u8-at .ensures) ∙ c .before .if1 .left) (c .if2 .left)))
