@@ -1,38 +1,12 @@
--- Laws of opening: of any slots, and of slots as they are written. Assumes nothing.
-use Prim.Native.Nat.{ℕ, zero, suc, _+_, _-_, _≤_, _<_}
-use native.Mathlib.Nat.{not-suc-le-zero}
+-- Laws of opening slots as they are written. Assumes nothing.
+use Prim.Native.Nat.{ℕ, suc, _+_, _-_, _≤_, _<_}
 use native.Mathlib.Omega.{arith}
-use mathlib.Core.Path.{_≡_, refl, sym, ap, _∙_}
-use mathlib.Core.Bool.{Bool, true, false}
-use mathlib.Core.List.{List, [], _∷_, _++_, append-assoc}
-use lib.Dec.{eqb}
-use borrow.Author.Tests.{eq-eqb, ne-eqb, eqb-true, eqb-false}
+use mathlib.Core.Path.{_≡_, refl, ap}
+use mathlib.Core.List.{List, [], _∷_, _++_}
+use borrow.Author.Tests.{eq-eqb, ne-eqb}
 use Rattle.wire.specs.Wire.{leAt}
 use Rattle.ray_tracing.specs.Groups.{Item, Slot, itemOf, itemSize, itemsOf, groupAt, groupOf, openItem, openItems, openBelow, openGroup}
-
--- Any slots
-
--- how many groups are before does not matter to those that are
-pub below-is : {A : Type 0} (c : ℕ → List (Item A)) (g h : ℕ) → h < g → openBelow c g h ≡ openGroup c h
-unfolding openBelow openGroup
-below-is c zero h l = absurd (not-suc-le-zero l)
-below-is c (suc g) h l = go (eqb h g) refl (below-is c g h)
-  where
-    go : (b : Bool) → eqb h g ≡ b → (h < g → openBelow c g h ≡ openItems (openBelow c h) (c h)) → openBelow c (suc g) h ≡ openItems (openBelow c h) (c h)
-    go true p rec =
-        let e : openBelow c (suc g) h ≡ openItems (openBelow c g) (c g) = rw p in
-        e ∙ ap (λ (k : ℕ). openItems (openBelow c k) (c k)) (sym (eqb-true h g p))
-    go false p rec =
-        let e : openBelow c (suc g) h ≡ openBelow c g h = rw p in
-        let d = eqb-false h g p in
-        e ∙ rec (omega arith)
-
-pub items-append : {A : Type 0} (lower : ℕ → List A) (xs ys : List (Item A)) → openItems lower (xs ++ ys) ≡ openItems lower xs ++ openItems lower ys
-unfolding openItems
-items-append lower [] ys = refl
-items-append lower (x ∷ xs) ys = rw (items-append lower xs ys, append-assoc)
-
--- Slots as they are written
+use Rattle.ray_tracing.proofs.Groups.{below-is}
 
 module _ (s : List ℕ) (g i at : ℕ) where
   -- an item that is a slot; and one that names a group before its own
