@@ -107,7 +107,7 @@ pub +open-group+open-item-spec : {M : Type 1} → statement M
       omega (arith, start .pre .0),
       (
         (start .pre .1 .0 .0, (start .pre .1 .0 .1, fine-first _ _ _ _ (l .i) (c .before .loop-test .taken) (l .inv .3))),
-        (omega (arith, l .inv .2, start .pre .1 .1 .0), l .inv .1),
+        (omega (arith, l .inv .2, start .pre .1 .1 .0), omega (arith, l .inv .1, start .pre .1 .1 .1)),
       ),
     ))
     -- enum-known-opened, enum-told
@@ -185,7 +185,7 @@ pub +open-group+open-item-spec : {M : Type 1} → statement M
     let low = item-earlier _ _ _ _ (start .pre .1 .0 .1 .1) (λ e. c .before .before .if1 .taken (c .before .before .before .u8-at .ensures ∙ e)) in
     let named = c .before .u16-at .ensures in (
       omega (arith, start .pre .0, low, named),
-      ((start .pre .1 .0 .0, omega (arith, low, named, start .pre .1 .0 .1 .0)), (start .pre .1 .1 .0, start .pre .1 .1 .1)),
+      ((start .pre .1 .0 .0, omega (arith, low, named, start .pre .1 .0 .1 .0)), (start .pre .1 .1 .0, omega (arith, start .pre .1 .1 .1))),
     ))
     -- same-length
     (λ c. c .before .before .open-group .kept .1 .1 .1 .0)
@@ -205,4 +205,5 @@ pub +open-group+open-item-spec : {M : Type 1} → statement M
     (λ c. search needs)
     -- returns-2, returns-3
     (λ c. item-room _ _ _ _ _ _ (sym (c .before .before .u8-at .ensures) ∙ c .before .if1 .left) (c .if2 .taken))
-    (λ c. item-full _ _ _ _ _ _ (sym (c .before .before .u8-at .ensures) ∙ c .before .if1 .left) (c .if2 .left)))
+    (λ c. let a = c .before .before .before .before .before .before .args in
+    item-full (a .groups .now) (a .group) (a .item) (a .at) (a .n) (a .places .now) (sym (c .before .before .u8-at .ensures) ∙ c .before .if1 .left) (c .if2 .left)))
