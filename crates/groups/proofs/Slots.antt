@@ -141,12 +141,13 @@ module _ (s : List ℕ) where
   unfolding flatten
   records-length [] t = refl
   records-length (x ∷ xs) t =
-      omega
-      (arith,
-      length-append (slotRecord s x) (flatten (map (slotRecord s) xs)),
-      ap length (record-is x (t .0)) ∙ part-length 56 (x .at) (t .0 .whole),
-      records-length xs (t .1),
-      suc-mul (length xs) 56)
+      omega (
+        arith,
+        length-append (slotRecord s x) (flatten (map (slotRecord s) xs)),
+        ap length (record-is x (t .0)) ∙ part-length 56 (x .at) (t .0 .whole),
+        records-length xs (t .1),
+        suc-mul (length xs) 56,
+      )
 
   pub within : (xs : List Slot) → All (λ (x : Slot). Stands s (x .at)) xs → Within s (map (λ (x : Slot). x .at) xs)
   within [] t k h = absurd (omega (arith, h))

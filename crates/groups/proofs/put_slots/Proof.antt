@@ -84,9 +84,9 @@ loop-again c =
     let at = getD (a .places .now) (l .k) 0 in
     let put = c .before .before .put-bytes in (
       l .inv .0
-      ∙ sym
-      (ap (λ x. sets x ((l .k + 1) * 56) (itemsAt (a .groups .now) (drop (l .k + 1) (a .places .now)))) (put .ensures)
-      ∙ put-next (a .groups .now) (a .places .now) (l .slots) (l .k) (at + 56 - at) (search needs) (whole (c .before .before .before .before .before .before)) (omega arith)),
+          ∙ sym
+          (ap (λ x. sets x ((l .k + 1) * 56) (itemsAt (a .groups .now) (drop (l .k + 1) (a .places .now)))) (put .ensures)
+          ∙ put-next (a .groups .now) (a .places .now) (l .slots) (l .k) (at + 56 - at) (search needs) (whole (c .before .before .before .before .before .before)) (omega arith)),
       put .kept .0 ∙ l .inv .1,
       search needs,
     )
