@@ -8,18 +8,18 @@ use ray_tracing::SLOT_SIZE;
 use wire::put_bytes;
 use wire::u16_at;
 ghost use mathlib.Core.Path.{_≡_};
-ghost use mathlib.Core.List.{List, map, flatten};
-ghost use Prim.Native.Nat.{ℕ, _+_, _*_, _≤_, _<_};
-ghost use lib.ListN.{length, getD};
+ghost use Prim.Native.Nat.{_*_, _≤_};
+ghost use lib.ListN.{length};
 ghost use lib.Seq.{sets};
+ghost use Rattle.ray_tracing.specs.Layout.{size};
 ghost use Rattle.ray_tracing.specs.Groups.{fine, judgeGroups, openingOf, OpensGroups};
 ghost use Rattle.groups_judge.specs.Found.{Began};
-ghost use Rattle.groups.specs.Items.{Within, itemsAt, openedFrom};
+ghost use Rattle.groups.specs.Items.{Within, itemsAt};
 
 // The items at these places, one behind the other: an item that is a slot has the bytes of a record of section 8.
 fn put_slots(groups: &[u8], places: &[usize], slots: &mut [u8])
     requires { ⌜
-        Within (now groups) (now places) × (SLOT_SIZE * length (now places) ≤ length (now slots))
+        Within (now groups) (now places) × (length (now places) * size 8 ≤ length (now slots))
         ⌝ }
     ensures { λ _. ⌜ now (slots .exit) ≡ sets (now (slots .entry)) 0 (itemsAt (now (groups .entry)) (now (places .entry))) ⌝ }
 {

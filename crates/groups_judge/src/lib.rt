@@ -13,6 +13,7 @@ ghost use mathlib.Core.List.{[]};
 ghost use Prim.Native.Nat.{_+_, _≤_};
 ghost use lib.ListN.{length};
 ghost use Rattle.wire.specs.Wire.{leAt};
+ghost use Rattle.ray_tracing.specs.Layout.{size};
 ghost use Rattle.ray_tracing.specs.Reading.{begin, judgeFields};
 ghost use Rattle.ray_tracing.specs.Groups.{slotFields, itemSize, pastItems, byByte, judgeName, judgeItem, judgeGroup, judgeGroups};
 ghost use Rattle.groups_judge.specs.Found.{judgedOf, endOf, Began};
@@ -38,7 +39,7 @@ fn judge_slot(groups: &[u8], at: usize) -> GroupsJudged
     ensures judged { λ r. ⌜
         judgedOf r ≡ byByte (judgeFields (begin 0 [] false) (now (groups .entry)) (at + 1) slotFields)
         ⌝ }
-    ensures ends { λ r. ⌜ endOf r (at + 56) ≡ at + 56 ⌝ }
+    ensures ends { λ r. ⌜ endOf r (at + size 8) ≡ at + size 8 ⌝ }
 {
     if SLOT_SIZE <= groups.len() - at {
         return GroupsJudged::EndsAt(at + SLOT_SIZE);

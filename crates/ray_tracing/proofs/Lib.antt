@@ -27,6 +27,7 @@ pub mod Builds
 pub mod Allowed
 pub mod Agree
 pub mod Words
+pub mod Groups
 pub mod Demand3
 pub mod Decode
 pub mod Applied

@@ -186,13 +186,14 @@ afterJudging fine n = opened n
 afterJudging (refused n p g i) m = unopened n p g i
 
 -- "the whole card is judged first, (...) then 46, then 39"
-unfoldable pub openRule : List ℕ → ℕ → Opening
-openRule s room =
-    afterJudging
-    (judgeGroups s
+unfoldable pub judgeOpening : List ℕ → ℕ → Judged
+judgeOpening s room =
+    judgeGroups s
     andNext judgeMost (slotsOf s)
-    andNext judgedWhen (ltb room (length (slotRecords s))) (atByte 39 0))
-    (length (slotRecords s))
+    andNext judgedWhen (ltb room (length (slotRecords s))) (atByte 39 0)
+
+unfoldable pub openRule : List ℕ → ℕ → Opening
+openRule s room = afterJudging (judgeOpening s room) (length (slotRecords s))
 
 -- "nothing written"; past what is written the bytes out are kept
 abbrev pub openingLeaves : Opening → List ℕ → List ℕ → List ℕ

@@ -1,0 +1,140 @@
+-- What is claimed of groups that are judged fine: each opens to a slot at least, so that few calls reach the 513th; and a list of one group
+-- opens to the bytes that stand behind its two counts.
+use Prim.Native.Nat.{ℕ, zero, suc, _+_, _-_, _≤_, _<_}
+use native.Mathlib.Nat.{not-suc-le-zero}
+use native.Mathlib.Omega.{arith}
+use mathlib.Core.Path.{_≡_, refl, sym, ap, _∙_, subst}
+use mathlib.Core.Bool.{Bool, true, false, cond}
+use mathlib.Core.List.{List, [], _∷_, _++_, map, flatten, append-nil, append-assoc}
+use lib.Dec.{eqb}
+use lib.ListN.{length, take, drop, length-append, take-append-drop}
+use lib.Seq.{drop-drop, drop-length}
+use borrow.Author.Tests.{eqb-true, eqb-false}
+use Rattle.wire.specs.Wire.{leAt}
+use Rattle.ray_tracing.specs.Groups.{
+  Item,
+  slot,
+  named,
+  Slot,
+  itemOf,
+  itemSize,
+  itemsOf,
+  pastItems,
+  groupCount,
+  groupAt,
+  groupOf,
+  openItem,
+  openItems,
+  openBelow,
+  openGroup,
+  slotsOf,
+  slotRecord,
+  slotRecords,
+  fine,
+  judgeItems,
+  judgeGroups,
+}
+use Rattle.groups_judge.proofs.Laws.{size-slot, item-inside, item-earlier, items-first, items-next, FineGroup, FineGroups, fine-groups}
+use Rattle.groups.proofs.Slots.{Stands, record-is}
+
+-- an item is a slot or names a group
+abbrev itemBy : List ℕ → ℕ → ℕ → ℕ → Bool → Item Slot
+itemBy s g i at b = cond b (slot (record { group = g; item = i; at = at })) (named (leAt 2 s (at + 1)))
+
+module _ (s : List ℕ) where
+  -- where every lower group has a slot, so have items
+  items-some :
+      (lower : ℕ → List Slot) (g n i at : ℕ)
+      → judgeItems s g (suc n) i at ≡ fine
+      → ((h : ℕ) → h < g → 1 ≤ length (lower h))
+      → 1 ≤ length (openItems lower (itemsOf s g (suc n) i at))
+  unfolding openItems openItem itemsOf itemOf
+  items-some lower g n i at f some = go (eqb (leAt 1 s at) 1) refl
+    where
+      go :
+          (b : Bool)
+          → eqb (leAt 1 s at) 1 ≡ b
+          → 1 ≤ length (openItem lower (itemBy s g i at b) ++ openItems lower (itemsOf s g n (i + 1) (at + itemSize s at)))
+      go true e = omega arith
+      go false e =
+          let h = leAt 2 s (at + 1) in
+          let l = some h (item-earlier s g i at (items-first s g n i at f) (eqb-false (leAt 1 s at) 1 e)) in
+          omega (arith, length-append (lower h) (openItems lower (itemsOf s g n (i + 1) (at + itemSize s at))))
+
+  group-some :
+      (lower : ℕ → List Slot) (g : ℕ)
+      → FineGroup s g (groupAt s g)
+      → ((h : ℕ) → h < g → 1 ≤ length (lower h))
+      → 1 ≤ length (openItems lower (groupOf s g))
+  unfolding groupOf
+  group-some lower g f some = go (leAt 2 s (groupAt s g)) (f .some) (f .items)
+    where
+      go :
+          (n : ℕ)
+          → 1 ≤ n
+          → judgeItems s g n 0 (groupAt s g + 2) ≡ fine
+          → 1 ≤ length (openItems lower (itemsOf s g n 0 (groupAt s g + 2)))
+      go zero h e = absurd (omega (arith, h))
+      go (suc n) h e = items-some lower g n 0 (groupAt s g + 2) e some
+
+  module _ (f : judgeGroups s ≡ fine) where
+    below-some : (n : ℕ) → n ≤ groupCount s → (h : ℕ) → h < n → 1 ≤ length (openBelow (groupOf s) n h)
+    unfolding openBelow
+    below-some zero l h k = absurd (not-suc-le-zero k)
+    below-some (suc n) l h k =
+        let some = below-some n (omega (arith, l)) in
+        go (eqb h n) refl (group-some (openBelow (groupOf s) n) n (fine-groups s f .groups n (omega (arith, l))) some) (some h)
+      where
+        go :
+            (b : Bool)
+            → eqb h n ≡ b
+            → 1 ≤ length (openItems (openBelow (groupOf s) n) (groupOf s n))
+            → (h < n → 1 ≤ length (openBelow (groupOf s) n h))
+            → 1 ≤ length (cond b (openItems (openBelow (groupOf s) n) (groupOf s n)) (openBelow (groupOf s) n h))
+        go true e x y = x
+        go false e x y = let d = eqb-false h n e in y (omega (arith, k))
+
+    -- "every group opens to at least one slot"
+    pub each-opens : (g : ℕ) → g < groupCount s → 1 ≤ length (openGroup (groupOf s) g)
+    unfolding openGroup
+    each-opens g l =
+        group-some (openBelow (groupOf s) g) g (fine-groups s f .groups g l) (below-some g (omega (arith, l)))
+
+  -- the items of the first group are slots, and their records are the bytes that stand there
+  first-items :
+      (lower : ℕ → List Slot) (n i at : ℕ)
+      → judgeItems s 0 n i at ≡ fine
+      → flatten (map (slotRecord s) (openItems lower (itemsOf s 0 n i at))) ++ drop (pastItems s n at) s ≡ drop at s
+  unfolding openItems openItem itemsOf itemOf pastItems flatten
+  first-items lower zero i at f = refl
+  first-items lower (suc n) i at f =
+      go (eqb (leAt 1 s at) 1) refl (first-items lower n (i + 1) (at + itemSize s at) (items-next s 0 n i at f))
+    where
+      go :
+          (b : Bool)
+          → eqb (leAt 1 s at) 1 ≡ b
+          → flatten (map (slotRecord s) (openItems lower (itemsOf s 0 n (i + 1) (at + itemSize s at)))) ++ drop (pastItems s n (at + itemSize s at)) s ≡ drop (at + itemSize s at) s
+          → flatten (map (slotRecord s) (openItem lower (itemBy s 0 i at b) ++ openItems lower (itemsOf s 0 n (i + 1) (at + itemSize s at)))) ++ drop (pastItems s n (at + itemSize s at)) s ≡ drop at s
+      go true e rec =
+          let one = eqb-true (leAt 1 s at) 1 e in
+          let size = size-slot s at one in
+          let w = item-inside s 0 i at (items-first s 0 n i at f) in
+          let x : Slot = record { group = 0; item = i; at = at } in
+          append-assoc (slotRecord s x) _ _
+          ∙ ap (λ (l : List ℕ). slotRecord s x ++ l) (rec ∙ ap (λ (m : ℕ). drop (at + m) s) size ∙ sym (drop-drop 56 at s))
+          ∙ ap (λ (l : List ℕ). l ++ drop 56 (drop at s)) (record-is s x (record { byte = one; whole = omega (arith, w, size) }))
+          ∙ take-append-drop 56 (drop at s)
+      go false e rec =
+          absurd (not-suc-le-zero (item-earlier s 0 i at (items-first s 0 n i at f) (eqb-false (leAt 1 s at) 1 e)))
+
+  -- "a card of one group with slots only gives those slots": a first group has no others, and the item of each is its record
+  pub one-group : judgeGroups s ≡ fine → groupCount s ≡ 1 → slotRecords s ≡ drop 4 s
+  unfolding slotRecords slotsOf openGroup groupOf groupAt
+  one-group f one =
+      let w = fine-groups s f in
+      let items = first-items (openBelow (groupOf s) 0) (leAt 2 s 2) 0 4 (w .groups 0 (omega (arith, one)) .items) in
+      let ends : pastItems s (leAt 2 s 2) 4 ≡ length s = ap (groupAt s) (sym one) ∙ w .ends in
+      ap (λ (n : ℕ). flatten (map (slotRecord s) (openGroup (groupOf s) (n - 1)))) one
+      ∙ sym (append-nil _)
+      ∙ ap (λ (l : List ℕ). flatten (map (slotRecord s) (openGroup (groupOf s) 0)) ++ l) (sym (ap (λ (n : ℕ). drop n s) ends ∙ drop-length s))
+      ∙ items
