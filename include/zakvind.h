@@ -77,15 +77,15 @@ enum {
 };
 
 enum {
-    ZAKVIND_TLAS_ROOM = 512,           /* cells of a Tlas's list in a submission */
-    ZAKVIND_INSTANCE_BYTES = 64,       /* that a present slot comes to */
-    ZAKVIND_LONGEST_REPORT = 6134,     /* bytes of zakvind_report */
-    ZAKVIND_LONGEST_EXPLAINED = 6381,  /* bytes of zakvind_explain */
-    ZAKVIND_LONGEST_WORDS = 247,       /* bytes of zakvind_words */
-    ZAKVIND_MOST_GROUPS = 64,          /* of zakvind_open_groups */
-    ZAKVIND_TEXT_STACK_BYTES = 131072, /* of zakvind_report and zakvind_explain */
-    ZAKVIND_GROUPS_STACK_BYTES = 32768, /* of zakvind_open_groups */
-    ZAKVIND_STACK_BYTES = 8192         /* of every other call */
+    ZAKVIND_TLAS_ROOM = 512,            /* cells of a Tlas's list in a submission */
+    ZAKVIND_INSTANCE_BYTES = 64,        /* that a present slot comes to */
+    ZAKVIND_MOST_GROUPS = 64,           /* of zakvind_open_groups */
+    ZAKVIND_LONGEST_REPORT = 6134,      /* bytes of zakvind_report */
+    ZAKVIND_LONGEST_EXPLAINED = 6381,   /* bytes of zakvind_explain */
+    ZAKVIND_LONGEST_WORDS = 247,        /* bytes of zakvind_words */
+    ZAKVIND_TEXT_STACK_BYTES = 131072,  /* of zakvind_report and zakvind_explain */
+    ZAKVIND_GROUPS_STACK_BYTES = 20480, /* of zakvind_open_groups */
+    ZAKVIND_STACK_BYTES = 8192          /* of every other call */
 };
 
 /* A pointer to no elements, for a length of 0; and a pointer that may be null where its length is 0. */

@@ -709,7 +709,7 @@ def test_open():
     lacking = environment(path=str(tools(room / "open-plain")))
     run = Run(box, "--open", input=cards.data_of(cards.SMALL), env=lacking)
     assert run.status == 0 and run.out == opened_card(cards.data_of(cards.SMALL))[0] and not run.err, run
-    refused_line(Run(box, "--open", SHEETS / "usable.sheet", env=lacking), 1, "usable.sheet: refused 4: count above its limit, byte 0")
+    refused_line(Run(box, "--open", SHEETS / "usable.sheet", env=lacking), 1, "usable.sheet: refused 5: value outside its field, byte 4")
 
 
 def test_open_long():
