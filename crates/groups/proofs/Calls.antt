@@ -3,28 +3,10 @@ use Prim.Native.Nat.{ℕ, _-_, _*_, _≤_, _<_}
 use native.Mathlib.Omega.{arith}
 use mathlib.Core.Path.{_≡_, refl, sym, ap, _∙_, subst}
 use mathlib.Core.List.{List, map}
-use lib.ListN.{length, getD, take}
+use lib.ListN.{length, take}
 use lib.Seq.{sets, getD-take, length-take-le}
 use borrow.Author.Tests.{lt-ltb, le-ltb}
-use Rattle.ray_tracing.specs.Groups.{
-  Slot,
-  groupCount,
-  groupOf,
-  openGroup,
-  slotsOf,
-  slotRecords,
-  Judged,
-  fine,
-  refused,
-  judgeGroups,
-  judgeOpening,
-  Opening,
-  opened,
-  unopened,
-  openRule,
-  openingLeaves,
-  OpensGroups,
-}
+use Rattle.ray_tracing.specs.Groups.{Slot, groupCount, groupOf, openGroup, slotsOf, slotRecords, Judged, fine, refused, judgeGroups, judgeOpening, Opening, opened, unopened, openRule, openingLeaves, OpensGroups}
 use Rattle.ray_tracing.proofs.Groups.{judged-first}
 use Rattle.groups_judge.specs.Found.{Began}
 use Rattle.groups_judge.proofs.Laws.{fine-groups}

@@ -3,39 +3,17 @@ use Prim.Native.Nat.{ℕ, zero, suc, _+_, _-_, _*_, _≤_, _<_}
 use native.Mathlib.Nat.{suc-mul}
 use native.Mathlib.Numerals.{add-one}
 use native.Mathlib.Omega.{arith}
-use mathlib.Core.Path.{_≡_, refl, sym, ap, _∙_, subst}
+use mathlib.Core.Path.{_≡_, refl, sym, ap, _∙_}
 use mathlib.Core.Bool.{Bool, true, false, cond}
 use mathlib.Core.List.{List, [], _∷_, _++_, map, flatten}
 use lib.Dec.{eqb}
 use lib.ListN.{length, getD, take, drop, length-append, length-drop, drop-of-length-le}
 use lib.Seq.{sets, drop-cons, length-take-le}
-use borrow.Author.Tests.{eqb-true, eqb-false}
+use borrow.Author.Tests.{eqb-true}
 use Rattle.wire.specs.Wire.{leAt}
 use Rattle.wire.proofs.Laws.{sets-append}
-use Rattle.ray_tracing.specs.Groups.{
-  Item,
-  slot,
-  named,
-  Slot,
-  itemOf,
-  itemSize,
-  itemsOf,
-  groupCount,
-  groupAt,
-  groupOf,
-  openItem,
-  openItems,
-  openBelow,
-  openGroup,
-  slotsOf,
-  slotRecord,
-  slotRecords,
-  fine,
-  judgeItem,
-  judgeItems,
-  judgeGroups,
-}
-use Rattle.groups_judge.proofs.Laws.{size-slot, item-inside, items-first, items-next, FineGroup, FineGroups, fine-groups}
+use Rattle.ray_tracing.specs.Groups.{Item, slot, named, Slot, itemOf, itemSize, itemsOf, groupCount, groupAt, groupOf, openItem, openItems, openBelow, openGroup, slotsOf, slotRecord, fine, judgeItems, judgeGroups}
+use Rattle.groups_judge.proofs.Laws.{size-slot, item-inside, items-first, items-next, fine-groups}
 use Rattle.groups.specs.Items.{itemsAt, Within}
 
 -- ---- what holds of every slot that is written holds of every slot that is opened

@@ -11,27 +11,7 @@ use borrow.Author.Tests.{eq-eqb, ne-eqb, eqb-true, eqb-false, ltb-true, ltb-fals
 use Rattle.wire.specs.Wire.{leAt}
 use Rattle.ray_tracing.specs.Reading as reading
 use Rattle.ray_tracing.proofs.Reading.{fields-whole}
-use Rattle.ray_tracing.specs.Groups.{
-  Judged,
-  fine,
-  refused,
-  judgedWhen,
-  _andNext_,
-  atByte,
-  byByte,
-  slotFields,
-  isSlot,
-  itemSize,
-  pastItems,
-  groupCount,
-  groupAt,
-  judgeName,
-  judgeItem,
-  judgeItems,
-  judgeGroup,
-  judgeFrom,
-  judgeGroups,
-}
+use Rattle.ray_tracing.specs.Groups.{Judged, fine, refused, judgedWhen, _andNext_, atByte, byByte, slotFields, isSlot, itemSize, pastItems, groupCount, groupAt, judgeName, judgeItem, judgeItems, judgeGroup, judgeFrom, judgeGroups}
 
 -- ---- the first of two
 
@@ -83,7 +63,7 @@ abbrev namedJudged : List ℕ → ℕ → ℕ → ℕ → Judged
 namedJudged s g i at = cond (eqb (leAt 1 s at) 2) (judgeName s g i (at + 1)) (refused 5 at 0 0)
 
 module _ (s : List ℕ) (g i at : ℕ) (f : judgeItem s g i at ≡ fine) where
-  item-begins : at + 1 ≤ length s
+  pub item-begins : at + 1 ≤ length s
   unfolding judgeItem
   item-begins = ltb-false (length s) (at + 1) (when-fine _ 2 at 0 0 (first-fine _ _ f))
 

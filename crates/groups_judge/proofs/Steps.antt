@@ -21,26 +21,7 @@ use Rattle.ray_tracing.proofs.GroupsJudged as T
 use Rattle.ray_tracing.specs.declared.GroupsJudged.{GroupsJudged}
 use Rattle.ray_tracing.specs.declared.GroupsJudged.the-variants as groups-judged
 use Rattle.groups_judge.specs.Found.{judgedOf, endOf, Began}
-use Rattle.ray_tracing.specs.Groups.{
-  Judged,
-  fine,
-  refused,
-  judgedWhen,
-  _andNext_,
-  atByte,
-  atItem,
-  byByte,
-  itemSize,
-  pastItems,
-  groupCount,
-  groupAt,
-  judgeName,
-  judgeItem,
-  judgeItems,
-  judgeGroup,
-  judgeFrom,
-  judgeGroups,
-}
+use Rattle.ray_tracing.specs.Groups.{Judged, fine, refused, judgedWhen, _andNext_, atByte, atItem, byByte, itemSize, pastItems, groupCount, groupAt, judgeName, judgeItem, judgeItems, judgeGroup, judgeFrom, judgeGroups}
 use Rattle.groups_judge.proofs.Laws.{refused-not-fine, size-slot, size-named, slotJudged, item-inside, fine-group, group-inside, behind}
 
 -- a name
@@ -63,7 +44,7 @@ unfolding reading.judgeFields
 any-fine [] c s p h = refl
 any-fine (w ∷ ws) c s p h = rw (le-ltb (length s) (p + w) (omega arith)) (any-fine ws c s (p + w) (omega arith))
 
-then-nothing : (j : reading.Judged) → reading._andNext_ j reading.fine ≡ j
+pub then-nothing : (j : reading.Judged) → reading._andNext_ j reading.fine ≡ j
 then-nothing reading.fine = refl
 then-nothing (reading.refused n p) = refl
 
@@ -76,7 +57,7 @@ module _ (s : List ℕ) (at : ℕ) where
 
   -- an item whose byte is 1 is judged as a record of section 8: what the code's judge says of it
   module _ (h : at + 1 ≤ length s) (e : leAt 1 s at ≡ 1) where
-    slot-as-record : (c : Seen) → reading.judgeRecords c (layout 8 .fields) s at 1 ≡ slotJudged s at
+    pub slot-as-record : (c : Seen) → reading.judgeRecords c (layout 8 .fields) s at 1 ≡ slotJudged s at
     unfolding reading.judgeFields reading.judgeRecords
     slot-as-record c = rw (le-ltb (length s) (at + 1) h, e) (then-nothing (slotJudged s at))
 

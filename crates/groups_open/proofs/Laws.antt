@@ -12,7 +12,7 @@ use Rattle.wire.specs.Wire.{leAt}
 use Rattle.wire.proofs.Laws.{sets-append}
 use Rattle.ray_tracing.specs.Groups as groups
 use Rattle.ray_tracing.specs.Groups.{Slot, itemOf, itemSize, itemsOf, groupAt, groupOf, openItem, openItems, openBelow, openGroup, fine, atItem, atFirst, judgeItem, judgeItems, judgeMost}
-use Rattle.groups_judge.proofs.Laws.{item-inside, items-first, items-next, FineGroup, fine-groups}
+use Rattle.groups_judge.proofs.Laws.{items-first, items-next, FineGroup, fine-groups}
 use Rattle.groups_open.proofs.Opening.{item-slot, item-named, items-more, items-none, group-items}
 use Rattle.groups_open.specs.declared.Opened.{Opened}
 use Rattle.groups_open.specs.declared.Opened.the-variants.{Slots, Full}
@@ -177,10 +177,6 @@ module _ (s : List ℕ) (g i at n : ℕ) (out : List ℕ) where
       (p ∙ ap (counted n) there, q ∙ ap (λ (l : List Slot). placed n l out) there)
 
 -- The groups that are judged fine
-
-pub byte-inside : (s : List ℕ) (g i at : ℕ) → judgeItem s g i at ≡ fine → at + 1 ≤ length s
-unfolding itemSize
-byte-inside s g i at e = let whole = item-inside s g i at e in omega (arith, whole)
 
 -- the items of group g from item i on, where n are in it
 module _ (s : List ℕ) (g n : ℕ) where

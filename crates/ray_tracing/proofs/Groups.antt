@@ -12,40 +12,7 @@ use lib.Seq.{sets}
 use borrow.Author.Tests.{eqb-true, eqb-false}
 use Rattle.wire.specs.Wire.{leAt, leBytes}
 use Rattle.ray_tracing.specs.Reading.{judgeFields}
-use Rattle.ray_tracing.specs.Groups.{
-  Item,
-  slot,
-  named,
-  itemOf,
-  itemSize,
-  itemsOf,
-  pastItems,
-  groupCount,
-  groupAt,
-  groupOf,
-  openItem,
-  openItems,
-  openBelow,
-  openGroup,
-  slotsOf,
-  slotRecord,
-  slotRecords,
-  Judged,
-  fine,
-  refused,
-  judgeItem,
-  judgeItems,
-  judgeGroup,
-  judgeFrom,
-  judgeGroups,
-  judgeOpening,
-  opened,
-  unopened,
-  afterJudging,
-  openRule,
-  openingLeaves,
-  OpensGroups,
-}
+use Rattle.ray_tracing.specs.Groups.{Item, slot, named, itemOf, itemSize, itemsOf, pastItems, groupCount, groupAt, groupOf, openItem, openItems, openBelow, openGroup, slotsOf, slotRecord, slotRecords, Judged, fine, refused, judgeItem, judgeItems, judgeGroup, judgeFrom, judgeGroups, judgeOpening, opened, unopened, afterJudging, openRule, openingLeaves, OpensGroups}
 
 module _ {A : Type 0} where
   pub items-append :
