@@ -1,6 +1,6 @@
 // Opening a group and opening an item call on each other until only slots are left: the group's number falls at each nested group, and the
-// items left fall within one. Each group has an item, so each opens to a slot at least: the 513th slot, which ends it, is reached after at most
-// 513 times 64 calls, however many the groups name.
+// items left fall within one. Each group opens to a slot at least (`each-opens` of `groups`), and the 513th slot ends it: so at most 513 slots
+// are reached, each through at most 64 groups, however many slots the groups name.
 use ray_tracing::MOST_SLOTS;
 use ray_tracing::NAME_SIZE;
 use ray_tracing::SLOT_SIZE;
