@@ -14,13 +14,13 @@ use Rattle.wire.specs.Wire.{leAt}
 use Rattle.wire.proofs.Laws.{le-append-left, le-append-right, le-drop, le-take}
 use Rattle.ray_tracing.specs.Layout.{Seen, layout}
 use Rattle.ray_tracing.specs.Reading as reading
-use Rattle.ray_tracing.specs.Groups.{Item, slot, named, Slot, itemOf, itemSize, itemsOf, pastItems, groupCount, groupAt, groupOf, openItem, openItems, openBelow, openGroup, slotsOf, slotRecord, slotRecords, fine, judgeItems, judgeGroups}
+use Rattle.ray_tracing.specs.Groups.{GroupItem, slot, named, Slot, itemOf, itemSize, itemsOf, pastItems, groupCount, groupAt, groupOf, openItem, openItems, openBelow, openGroup, slotsOf, slotRecord, slotRecords, fine, judgeItems, judgeGroups}
 use Rattle.groups_judge.proofs.Laws.{size-slot, item-inside, item-earlier, items-first, items-next, FineGroup, fine-groups}
 use Rattle.groups_judge.proofs.Steps.{then-nothing, slot-there, slot-as-record}
 use Rattle.groups.proofs.Slots.{All, Stands, slots-stand, record-is, part-length}
 
 -- an item is a slot or names a group
-abbrev itemBy : List ℕ → ℕ → ℕ → ℕ → Bool → Item Slot
+abbrev itemBy : List ℕ → ℕ → ℕ → ℕ → Bool → GroupItem Slot
 itemBy s g i at b = cond b (slot (record { group = g; item = i; at = at })) (named (leAt 2 s (at + 1)))
 
 module _ (s : List ℕ) where

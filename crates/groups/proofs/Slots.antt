@@ -12,7 +12,7 @@ use lib.Seq.{sets, drop-cons, length-take-le}
 use borrow.Author.Tests.{eqb-true}
 use Rattle.wire.specs.Wire.{leAt}
 use Rattle.wire.proofs.Laws.{sets-append}
-use Rattle.ray_tracing.specs.Groups.{Item, slot, named, Slot, itemOf, itemSize, itemsOf, groupCount, groupAt, groupOf, openItem, openItems, openBelow, openGroup, slotsOf, slotRecord, fine, judgeItems, judgeGroups}
+use Rattle.ray_tracing.specs.Groups.{GroupItem, slot, named, Slot, itemOf, itemSize, itemsOf, groupCount, groupAt, groupOf, openItem, openItems, openBelow, openGroup, slotsOf, slotRecord, fine, judgeItems, judgeGroups}
 use Rattle.groups_judge.proofs.Laws.{size-slot, item-inside, items-first, items-next, fine-groups}
 use Rattle.groups.specs.Items.{itemsAt, Within}
 
@@ -23,7 +23,7 @@ All P [] = Unit
 All P (x ∷ xs) = P x × All P xs
 
 -- of items, those that are slots
-abbrev pub Each : {A : Type 0} → (A → Type 0) → List (Item A) → Type 0
+abbrev pub Each : {A : Type 0} → (A → Type 0) → List (GroupItem A) → Type 0
 Each P [] = Unit
 Each P (slot x ∷ xs) = P x × Each P xs
 Each P (named h ∷ xs) = Each P xs
@@ -33,13 +33,13 @@ module _ {A : Type 0} (P : A → Type 0) where
   all-append [] ys a b = b
   all-append (x ∷ xs) ys a b = (a .0, all-append xs ys (a .1) b)
 
-  items-all : (lower : ℕ → List A) → ((h : ℕ) → All P (lower h)) → (xs : List (Item A)) → Each P xs → All P (openItems lower xs)
+  items-all : (lower : ℕ → List A) → ((h : ℕ) → All P (lower h)) → (xs : List (GroupItem A)) → Each P xs → All P (openItems lower xs)
   unfolding openItems openItem
   items-all lower l [] e = tt
   items-all lower l (slot x ∷ xs) e = (e .0, items-all lower l xs (e .1))
   items-all lower l (named h ∷ xs) e = all-append (lower h) (openItems lower xs) (l h) (items-all lower l xs e)
 
-  module _ (c : ℕ → List (Item A)) where
+  module _ (c : ℕ → List (GroupItem A)) where
     below-all : (n : ℕ) → ((g : ℕ) → g < n → Each P (c g)) → (h : ℕ) → All P (openBelow c n h)
     unfolding openBelow
     below-all zero e h = tt

@@ -20,7 +20,7 @@ unfoldable pub placed : ℕ → List Slot → List ℕ → List ℕ
 placed n xs out = sets out n (map (λ (x : Slot). x .at) (take (512 - n) xs))
 
 -- groups that are judged fine, and where the first of them begin
-pub record Judged (s starts : List ℕ) : Type 0 where
+pub record JudgedFine (s starts : List ℕ) : Type 0 where
   pub fine : judgeGroups s ≡ fine
   pub most : length starts ≤ groupCount s
   pub place : (g : ℕ) → g < length starts → getD starts g 0 ≡ groupAt s g
