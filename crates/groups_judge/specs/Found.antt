@@ -1,4 +1,4 @@
--- What the code's judging says: what it finds, where what it found fine ends, and where groups begin. Assumes nothing.
+-- Internal: what the code's judging says: what it finds, where what it found fine ends, and where groups begin. Assumes nothing.
 use Prim.Native.Nat.{ℕ, _<_}
 use mathlib.Core.Path.{_≡_}
 use mathlib.Core.List.{List}

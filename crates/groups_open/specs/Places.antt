@@ -1,4 +1,4 @@
--- What opening counts and where it found the slots; and what judging shows it. Assumes nothing.
+-- Internal: what opening counts and where it found the slots; and what judging shows it. Assumes nothing.
 use Prim.Native.Nat.{ℕ, _+_, _-_, _≤_, _<_}
 use mathlib.Core.Path.{_≡_}
 use mathlib.Core.Bool.{cond}
