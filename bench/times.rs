@@ -324,6 +324,69 @@ fn written_anew(name: &str, what: &str, raw: &Raw) -> Anew {
     Anew { name: name.into(), what: what.into(), ours, read, copy }
 }
 
+/// Nanoseconds of groups opened, and of a plain memory copy of the same slots.
+struct Groups {
+    name: String,
+    what: String,
+    bytes: usize,
+    ours: f64,
+    copy: f64,
+}
+
+/// A group's items as bytes: slots, and the numbers of groups.
+fn group(slots: &[u8], named: &[u16]) -> Vec<u8> {
+    let n = (slots.len() / SIZES[SLOTS] + named.len()) as u16;
+    let names = named.iter().map(|g| [&[2], &g.to_le_bytes()[..]].concat()).collect::<Vec<Vec<u8>>>().concat();
+    [&n.to_le_bytes()[..], slots, &names].concat()
+}
+
+fn all_groups(groups: &[Vec<u8>]) -> Vec<u8> {
+    [&(groups.len() as u16).to_le_bytes()[..], &groups.concat()].concat()
+}
+
+/// The same 512 slots of groups inside of groups, and written out; and groups that name 2^63 slots, which are refused at the 513th.
+fn groups_rows() -> (Vec<Groups>, f64) {
+    let slots = tables(&only_slots(16)).table(SLOTS);
+    let all = slots.repeat(32);
+    let nested = all_groups(&[group(&slots, &[]), group(&[], &[0; 8]), group(&[], &[1; 4])]);
+    let doubled = |n: u16| {
+        let groups = (0..n).map(|g| if g == 0 { group(&slots[..56], &[]) } else { group(&[], &[g - 1; 2]) });
+        all_groups(&groups.collect::<Vec<Vec<u8>>>())
+    };
+    let one = slots[..56].repeat(512);
+    let of = |name: &str, what: &str, bytes: &[u8], slots: &[u8]| {
+        let mut out = vec![1u8; slots.len()];
+        let mut target = out.clone();
+        assert_eq!(zakvind::raw::open_groups(bytes, &mut out).written as usize, slots.len(), "{name}");
+        assert!(out == slots, "{name}");
+        let [ours, copy] = times(
+            [
+                &mut || {
+                    black_box(zakvind::raw::open_groups(black_box(bytes), black_box(&mut out)));
+                },
+                &mut || black_box(&mut target).copy_from_slice(black_box(slots)),
+            ],
+            &mut || {},
+        );
+        Groups { name: name.into(), what: what.into(), bytes: bytes.len(), ours, copy }
+    };
+    let rows = vec![
+        of("open-nested", "four times a group of eight times a group of 16 slots", &nested, &all),
+        of("open-doubled", "ten groups, each but the first twice the one before", &doubled(10), &one),
+        of("open-written", "one group of the 512 slots written out", &all_groups(&[group(&all, &[])]), &all),
+    ];
+    let most = doubled(64);
+    let mut out = vec![1u8; all.len()];
+    assert_eq!(zakvind::raw::open_groups(&most, &mut out).number, 46);
+    let [refused] = times(
+        [&mut || {
+            black_box(zakvind::raw::open_groups(black_box(&most), black_box(&mut out)));
+        }],
+        &mut || {},
+    );
+    (rows, refused)
+}
+
 fn build_row(name: &str, what: &str, shape: &Shape) -> Row {
     let raw = tables(shape);
     let t = raw.tables();
@@ -483,6 +546,7 @@ fn main() {
         written_anew("write-full", "a full sheet, nearly all of it used", &tables(&FULL)),
         written_anew("write-unused", "a full sheet of boxes and absent slots", &unused()),
     ];
+    let (groups, refused) = groups_rows();
     let growth: Vec<Row> = [1, 4, 16, 64]
         .map(|n| build_row(&format!("entries-{n}"), &format!("{n} entries, {} geometries", 4 * n), &only_entries(n)))
         .into_iter()
@@ -497,6 +561,12 @@ fn main() {
     for r in &anew {
         let times = [r.ours, r.read, r.copy].map(micro).join(" | ");
         let _ = writeln!(writing, "| {} | {times} | {:.2} | {:.2} |", r.what, r.ours / r.read, r.ours / r.copy);
+    }
+    let mut opening = String::new();
+    let typed = groups.last().map_or(0.0, |r| r.ours);
+    for r in &groups {
+        let times = [r.ours, r.copy].map(micro).join(" | ");
+        let _ = writeln!(opening, "| {} | {} | {times} | {:.2} | {:.2} |", r.what, r.bytes, r.ours / r.copy, r.ours / typed);
     }
     let instances = rows.iter().find(|r| r.name == "instances-512").unwrap();
     let table = |rows: &[Row]| {
@@ -528,6 +598,12 @@ fn main() {
          tell whether two sheets agree. The ratios are ours / reading and ours / copy; it judges the sheet as reading does, and then writes it \
          section by section.\n\n\
          | What | writing | reading | copy | to reading | to a copy |\n|---|---|---|---|---|---|\n{writing}\n\
+         512 slots opened from groups, against a plain memory copy of the same 28,672 bytes, which is what a caller has who keeps them written \
+         out, and against opening one group that has them so. The ratios are ours / copy and ours / written out; all groups are judged, then \
+         the places of the slots are found, then the slots are copied.\n\n\
+         | What | bytes | opening | copy | to a copy | to written out |\n|---|---|---|---|---|---|\n{opening}\n\
+         64 groups, each of which but the first names the one before twice, name 2^63 slots in {most} bytes; they are refused by 46 at the \
+         513th, in {refused}.\n\n\
          The program `zakvind` on a full sheet, from its start to its end: {program}.\n\n\
          ## How it grows\n\n\
          | Work | Rust | Rust, made | Zakvind | ratio | made |\n|---|---|---|---|---|---|\n{growth}\n\
@@ -554,6 +630,8 @@ fn main() {
         appended = micro(append.ours),
         stand_in = micro(append.rust),
         program = program(),
+        most = 2 + 2 + 56 + 63 * 8,
+        refused = micro(refused),
     );
     for r in rows.iter().chain(&growth) {
         println!(
@@ -581,6 +659,11 @@ fn main() {
         println!("write {} {:.2}", r.name, r.ours / r.read);
         println!("copy {} {:.2}", r.name, r.ours / r.copy);
     }
+    for r in &groups {
+        println!("copy {} {:.2}", r.name, r.ours / r.copy);
+        println!("open {} {:.2}", r.name, r.ours / typed);
+    }
+    println!("refused open-most {}", micro(refused));
     println!("copy instances-512 {:.2}", instances.ours / copy);
     println!("copy append-512 {:.2}", append.ours / copy);
     if let Some(file) = std::env::args().nth(1) {

@@ -11,7 +11,7 @@ sys.path.insert(0, str(ROOT / "format"))
 
 from refusals import CAUSES  # noqa: E402
 
-CALLS = {"sheet": "read_sheet", "build": "build", "submit": "submit", "append": "append_instance"}
+CALLS = {"sheet": "read_sheet", "build": "build", "submit": "submit", "append": "append_instance", "open": "open_groups"}
 TEXTS = ("report", "explain", "words")
 
 
@@ -46,7 +46,7 @@ def main():
         faults.append("the header's numbers are not those of the table of causes")
 
     spoken = set()
-    for file in ("building", "submission", "sheet"):
+    for file in ("building", "submission", "sheet", "groups"):
         for number, words in re.findall(r"^\s*/// (\d+)(?: in a \w+)?: (.*)$", text(f"bindings/rust/src/{file}.rs"), re.M):
             spoken.add(int(number))
             if words.replace("`", "") != CAUSES[int(number)].words:

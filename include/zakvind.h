@@ -12,8 +12,9 @@
  * Threads: the library has no data of its own, so calls in any number of threads do not disturb each other, as long as
  * nothing that one call may write is lent to another at the same time. It allocates nothing and calls nothing but memcpy,
  * memmove, memset and memcmp.
- * Stack: zakvind_report and zakvind_explain use at most ZAKVIND_TEXT_STACK_BYTES, every other call ZAKVIND_STACK_BYTES. These are
- * bounds on what was measured on x86-64 with the largest tables and sheet (bindings/c/edges.c), nothing proves them.
+ * Stack: zakvind_report and zakvind_explain use at most ZAKVIND_TEXT_STACK_BYTES, zakvind_open_groups ZAKVIND_GROUPS_STACK_BYTES,
+ * every other call ZAKVIND_STACK_BYTES. These are bounds on what was measured on x86-64 with the largest tables and sheet, and with
+ * 64 groups each inside the next (bindings/c/edges.c), nothing proves them.
  *
  * Tables are records end to end, little-endian, with the layout of the sheet's sections. zakvind_records.h packs and unpacks
  * each record, and has the bytes of one and the most of each.
@@ -70,17 +71,21 @@ enum {
     ZAKVIND_BUILD_OF_COMPACTED_BLAS = 41,                 /* Blas */
     ZAKVIND_USED_UNBUILT_BLAS = 42,                       /* Blas, Tlas in a Build; Tlas, Blas in a use */
     ZAKVIND_USED_UNBUILT_TLAS = 43,                       /* Tlas */
-    ZAKVIND_BLAS_NEWER_THAN_TLAS = 44                     /* Blas, Tlas */
+    ZAKVIND_BLAS_NEWER_THAN_TLAS = 44,                    /* Blas, Tlas */
+    ZAKVIND_INVALID_GROUP = 45,                           /* of groups: a count of 0, or a group that is not an earlier one */
+    ZAKVIND_TOO_MANY_SLOTS = 46                           /* of groups */
 };
 
 enum {
-    ZAKVIND_TLAS_ROOM = 512,           /* cells of a Tlas's list in a submission */
-    ZAKVIND_INSTANCE_BYTES = 64,       /* that a present slot comes to */
-    ZAKVIND_LONGEST_REPORT = 6134,     /* bytes of zakvind_report */
-    ZAKVIND_LONGEST_EXPLAINED = 6381,  /* bytes of zakvind_explain */
-    ZAKVIND_LONGEST_WORDS = 247,       /* bytes of zakvind_words */
-    ZAKVIND_TEXT_STACK_BYTES = 131072, /* of zakvind_report and zakvind_explain */
-    ZAKVIND_STACK_BYTES = 8192         /* of every other call */
+    ZAKVIND_TLAS_ROOM = 512,            /* cells of a Tlas's list in a submission */
+    ZAKVIND_INSTANCE_BYTES = 64,        /* that a present slot comes to */
+    ZAKVIND_MOST_GROUPS = 64,           /* of zakvind_open_groups */
+    ZAKVIND_LONGEST_REPORT = 6134,      /* bytes of zakvind_report */
+    ZAKVIND_LONGEST_EXPLAINED = 6381,   /* bytes of zakvind_explain */
+    ZAKVIND_LONGEST_WORDS = 247,        /* bytes of zakvind_words */
+    ZAKVIND_TEXT_STACK_BYTES = 131072,  /* of zakvind_report and zakvind_explain */
+    ZAKVIND_GROUPS_STACK_BYTES = 20480, /* of zakvind_open_groups */
+    ZAKVIND_STACK_BYTES = 8192          /* of every other call */
 };
 
 /* A pointer to no elements, for a length of 0; and a pointer that may be null where its length is 0. */
@@ -144,6 +149,13 @@ typedef struct {
     uint64_t place; /* of the refused byte; 0 for 39 */
     uint64_t written;
 } zakvind_written;
+
+typedef struct {
+    uint64_t number;
+    uint64_t place;       /* of the refused byte, of 2 to 5; 0 for the others */
+    uint64_t group, item; /* as written, from 0, of 45 and 46; 0 where there is none, and for the others */
+    uint64_t written;     /* bytes */
+} zakvind_opened;
 
 /* The room that a build's outputs need, in elements. */
 typedef struct {
@@ -215,6 +227,16 @@ zakvind_sheet zakvind_read_sheet(const uint8_t *sheet, size_t sheet_len);
  * reader's numbers first and at its place, and then writes nothing; room for the sheet's own length is always enough. */
 zakvind_written zakvind_write_sheet(const uint8_t *sheet, size_t sheet_len, uint8_t *out, size_t out_len);
 
+/* Opens groups of slots: a u16 group count, at most ZAKVIND_MOST_GROUPS, then for each group a u16 item count and its items. An item
+ * is a byte 1 and a slot's fields after its present byte, which together are a present slot as zakvind_pack_slot packs it, or a byte 2
+ * and a u16, the number of an earlier group, from 0. Writes the slots that the last group opens to, in written order, one behind the
+ * other as section 8 has them, with the present byte 1.
+ * Refuses by 2 to 5, 39, 45 and 46: first what judging all groups from the start on finds, whether the last one names them or not (2 to
+ * 5 at the byte place; 45, at a group and an item, for a count of 0 and for a group that names itself or a later one), then by 46 at
+ * the group and the item where the 513th slot is written, then by 39; and then writes nothing. Room for ZAKVIND_MOST_SLOTS *
+ * ZAKVIND_SLOT_BYTES is always enough, and however many slots are named, no more than 513 are opened. */
+zakvind_opened zakvind_open_groups(const uint8_t *groups, size_t groups_len, uint8_t *slots, size_t slots_len);
+
 /* Judges a build and writes its plan: an offset for each entry, one for each package, start and end of each package's
  * staging range, 64 bytes for each present slot, buffer, start and end of each initialisation range, the compactable Blases,
  * and the recorded action's lists, which zakvind_submit takes as (1, 0, entries, packages).
@@ -277,7 +299,8 @@ enum {
     ZAKVIND_CALL_BUILD = 2,
     ZAKVIND_CALL_SUBMISSION = 3, /* e0 is the action, e1 its kind, 0 where that is not known */
     ZAKVIND_CALL_APPEND = 4,
-    ZAKVIND_CALL_WRITE = 5       /* e0 is the place */
+    ZAKVIND_CALL_WRITE = 5,      /* e0 is the place */
+    ZAKVIND_CALL_GROUPS = 6      /* e0 is the place; of 45 and 46 e0 is the group and e1 the item */
 };
 zakvind_reported zakvind_words(
     uint64_t call, uint64_t number, uint64_t e0, uint64_t e1, uint64_t f0, uint64_t f1, uint64_t f2, uint8_t *out, size_t out_len);

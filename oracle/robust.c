@@ -126,7 +126,7 @@ static void given(unsigned call, const uint64_t *answer, size_t fields)
     }
     if (answer[0] < 64)
         numbers[answer[0]]++;
-    must(answer[0] <= 44, "a number of the table");
+    must(answer[0] <= 46, "a number of the table");
 }
 
 /* ---- the input */
@@ -315,6 +315,44 @@ static void call_append(input *in)
     must(!lents[3].before || memcmp(instances, lents[3].before, used) == 0, "what was in use is kept");
 }
 
+/* Groups opened into `room`, into as much as is always enough, into exactly as much as is needed, and into a byte less. */
+static void call_groups(input *in)
+{
+    enum { ALL = ZAKVIND_MOST_SLOTS * ZAKVIND_SLOT_BYTES };
+    const size_t room = number(in, 2);
+    size_t n = in->left;
+    const uint8_t *groups = take(in, &n, 1, 1);
+    uint8_t *all = lend(ALL, NULL, 0, 1);
+    const zakvind_opened a = zakvind_open_groups(groups, n, all, ALL), again = zakvind_open_groups(groups, n, all, ALL);
+    given(8, (const uint64_t *)&a, 5);
+    must(memcmp(&a, &again, sizeof a) == 0, "the same answer again");
+    must(a.number != ZAKVIND_OUTPUT_TOO_SHORT, "room that is always enough");
+    must(a.place <= n && (a.place == 0 || a.number <= ZAKVIND_INVALID_VALUE), "the place is one of the bytes");
+    must(a.group < ZAKVIND_MOST_GROUPS && (a.number >= ZAKVIND_INVALID_GROUP || (a.group == 0 && a.item == 0)), "the group is one of them");
+    must(a.number ? a.written == 0 : a.written > 0 && a.written % ZAKVIND_SLOT_BYTES == 0, "slots are written whole, and some are");
+    kept(1, a.written, "what is past the slots is kept, and all where they are refused");
+    seen(1, a.written);
+    for (size_t i = 0; i < a.written; i += ZAKVIND_SLOT_BYTES)
+        must(all[i] == 1, "a slot is present");
+    speak(6, a.number, a.number >= ZAKVIND_INVALID_GROUP ? a.group : a.place, a.item, 0, 0, 0);
+    done_from(2);
+    const size_t rooms[3] = {a.written, a.written ? a.written - 1 : 0, room};
+    for (int i = 0; i < 3; i++) {
+        uint8_t *slots = lend(rooms[i], NULL, 0, 1);
+        const zakvind_opened b = zakvind_open_groups(groups, n, slots, rooms[i]);
+        given(9, (const uint64_t *)&b, 5);
+        if (a.number || rooms[i] >= a.written)
+            must(memcmp(&a, &b, sizeof a) == 0 && memcmp(slots, all, a.written) == 0, "the same answer and bytes with any room that is enough");
+        else
+            must(b.number == ZAKVIND_OUTPUT_TOO_SHORT && b.place == 0 && b.group == 0 && b.item == 0 && b.written == 0, "39 alone");
+        kept(2, b.written, "what is past the slots is kept, and all where they are refused");
+        seen(2, b.written);
+        speak(6, b.number, b.number >= ZAKVIND_INVALID_GROUP ? b.group : b.place, b.item, 0, 0, 0);
+        done_from(2);
+    }
+    kept(0, 0, "the groups are kept");
+}
+
 int LLVMFuzzerTestOneInput(const uint8_t *data, size_t size)
 {
     input in = {data, size};
@@ -329,6 +367,7 @@ int LLVMFuzzerTestOneInput(const uint8_t *data, size_t size)
     case 1: call_build(&in); break;
     case 2: call_submit(&in); break;
     case 3: call_append(&in); break;
+    case 4: call_groups(&in); break;
     default: break;
     }
     done_from(0);

@@ -4,6 +4,8 @@
 
 #[path = "src/canonical.rs"]
 mod canonical;
+#[path = "src/groups.rs"]
+mod groups;
 #[path = "src/layout.rs"]
 mod layout;
 #[path = "src/reading.rs"]
@@ -132,6 +134,11 @@ fn written(text: &[u8], out: &mut [u8]) -> Numbers<2> {
 #[no_mangle]
 pub unsafe extern "C" fn zakvind_write_sheet(sheet: *const u8, n: usize, out: *mut u8, m: usize) -> Numbers<3> {
     Numbers(reading().write(lent(sheet, n), lent_mut(out, m)))
+}
+
+#[no_mangle]
+pub unsafe extern "C" fn zakvind_open_groups(groups: *const u8, n: usize, slots: *mut u8, m: usize) -> Numbers<5> {
+    Numbers(reading().open(lent(groups, n), lent_mut(slots, m)))
 }
 
 #[no_mangle]

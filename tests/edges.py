@@ -23,14 +23,16 @@ root = pathlib.Path(__file__).resolve().parent.parent
 sys.path[:0] = [str(root / "format"), str(root / "tests")]
 
 import make_build_cases as builds  # noqa: E402
+import make_groups_cases as cards  # noqa: E402
 import make_read_cases as reads  # noqa: E402
 import make_report_cases as reports  # noqa: E402
 import make_write_cases as writes  # noqa: E402
 from canonical import canonical, meaning  # noqa: E402
 from generate import EXAMPLE, Accepted  # noqa: E402
+from groups import open_groups  # noqa: E402
 from layout import SECTIONS, single  # noqa: E402
 from picture import picture  # noqa: E402
-from printed import explained  # noqa: E402
+from printed import explained, words as words_for  # noqa: E402
 from text import BadText, make, show  # noqa: E402
 from verdict import Verdict  # noqa: E402
 from walk import Walked  # noqa: E402
@@ -47,9 +49,10 @@ try)
     [ -z "${TRIES-}" ] || echo x >>"$TRIES"
     printf 'FAIL: the native program at -O3 ended, but did not write what is expected\\nwhat the run said:\\nthe program exited with status 0\\n'
     mapfile -t words < <(cat crates/zakvind/args 2>/dev/null)
-    # bytes come as numbers, as the script has the copy write them
-    "${TRIED-$PROGRAM}" "${words[@]}" <crates/zakvind/stdin |
-        if [ "${words[0]-}" = canonical ]; then od -An -v -tu1 -w1 | tr -d ' '; else cat; fi
+    # bytes come as numbers, as the script has the copy write them, and what is said to standard error behind them
+    "${TRIED-$PROGRAM}" "${words[@]}" <crates/zakvind/stdin 2>said |
+        case ${words[0]-} in canonical | open) od -An -v -tu1 -w1 | tr -d ' ' ;; *) cat ;; esac
+    cat said
     printf '\\nFAIL: another run\\nthe program exited with status 0\\nsheet 9 9\\n'
     exit 1
     ;;
@@ -118,8 +121,11 @@ class Run:
         return f"status {self.status}, output {self.out!r}, said {self.err!r}"
 
 
-def program(data, *words):
-    return subprocess.run([str(PROGRAM), *words], input=data, stdout=subprocess.PIPE, check=True).stdout
+def program(data, *words, said=b""):
+    """What the program prints; and it says so much to standard error."""
+    done = subprocess.run([str(PROGRAM), *words], input=data, capture_output=True, check=True)
+    assert done.stderr == said, done.stderr
+    return done.stdout
 
 
 def one_line(run, *words):
@@ -148,6 +154,15 @@ def test_program_verbs():
         assert program(data, "canonical") == (b"" if Walked(data).refusal else canonical(data))
         for words in ([""], ["explai"], ["explainx"], ["canonica"], ["canonicalx"], ["x" * 100], ["explain", "explain"], ["canonical", ""]):
             assert program(data, *words) == b"", words
+    for data in card_bytes():
+        text, said = opened_card(data)
+        assert program(data, "open", said=(said or f"opened {len(text)}\n").encode()) == text
+        for words in (["ope"], ["openx"], ["open", ""]):
+            assert program(data, *words) == b"", words
+    # what fills the buffer may be longer
+    whole = long_card()
+    assert program(whole, "open", said=b"opened 56\n") == whole[-56:]
+    assert program(whole + b"\0", "open") == program(whole + bytes(100_000), "open") == b""
 
 
 # ---- sheets and statuses
@@ -206,11 +221,11 @@ def test_options():
     for word in ("--explian", "-x", "--explain=1", "--picture1"):
         usage(Run(box, usable, word), "no option", word)
     usage(Run(box, "--show", "--explain", usable), "--show", "--explain")
-    for word in ("--make", "--picture", "--canonical"):
+    for word in ("--make", "--picture", "--canonical", "--open"):
         usage(Run(box, word, usable, usable), "one file")
     for names in ((), (usable,), (usable, usable, usable), ("-",)):
         usage(Run(box, "--same", *names), "two files")
-    for words in (("--canonical", "--explain"), ("--same", "--canonical"), ("--make", "--same"), ("--same", "--show")):
+    for words in (("--canonical", "--explain"), ("--same", "--canonical"), ("--make", "--same"), ("--same", "--show"), ("--open", "--make")):
         usage(Run(box, *words, usable, usable), *words)
     usage(Run(box, "--same", "-", "-"), "only once")
     one_line(Run(box, "--", "--explain"), "--explain: there is no such file")
@@ -222,7 +237,7 @@ def test_options():
 def test_unreadable():
     one_line(Run(box, room / "none"), "no such file")
     one_line(Run(box, SHEETS), "folder")
-    for verb in ("--show", "--make", "--picture", "--explain", "--canonical"):
+    for verb in ("--show", "--make", "--picture", "--explain", "--canonical", "--open"):
         one_line(Run(box, verb, room / "none"), "no such file")
     file = pathlib.Path(tempfile.mkdtemp(dir=room)) / "kept.sheet"
     file.parent.chmod(0o755)
@@ -244,11 +259,14 @@ def test_output_lost():
             run = Run(box, *words, stdout=full)
         assert run.status == 2 and run.err.count("\n") == 1 and "standard output" in run.err, run
     usable = SHEETS / "usable.sheet"
-    for words in (("--picture", usable), ("--make", text), ("--help",), (usable, usable), ("--canonical", usable), ("--same", usable, usable)):
+    card = room / "lost.card"
+    card.write_bytes(cards.data_of(cards.SMALL))
+    opens = ("--open", card)
+    for words in (("--picture", usable), ("--make", text), ("--help",), (usable, usable), ("--canonical", usable), ("--same", usable, usable), opens):
         with open("/dev/full", "wb") as full:
             run = Run(box, *words, stdout=full)
         assert run.status == 2 and run.err.count("\n") == 1 and "standard output" in run.err, run
-    for words in ((usable,), ("--canonical", usable), ("--same", usable, usable)):
+    for words in ((usable,), ("--canonical", usable), ("--same", usable, usable), opens):
         run = Run(box, *words, stdout=None, preexec_fn=lambda: os.close(1))
         assert run.status == 2 and run.err.count("\n") == 1, run
 
@@ -306,11 +324,13 @@ def test_terminal():
     assert run.out.startswith(program(sheet("damaged"), "explain")) and b"byte 1998: slot 26, transform 6" in run.out, run
     assert Run(box, SHEETS / "rebuilt.sheet").out == program(sheet("rebuilt"))
     for words in ((), ("-",), ("--show",), ("--make",), ("--canonical",), ("--same", "-", SHEETS / "usable.sheet")):
-        usage(on_terminal(*words, stdin=True), "terminal")
+        usage(on_terminal(*words, stdin=True), "no sheet", "terminal")
+    usage(on_terminal("--open", stdin=True), "no card", "terminal")
     text = room / "terminal.txt"
     text.write_text(EXAMPLE)
     one_line(on_terminal("--make", text, stdout=True), "--make writes bytes")
     one_line(on_terminal("--canonical", SHEETS / "usable.sheet", stdout=True), "--canonical writes bytes")
+    one_line(on_terminal("--open", text, stdout=True), "--open writes bytes")
     assert on_terminal("--same", SHEETS / "usable.sheet", SHEETS / "usable.sheet", stdout=True).out == b"same\n"
 
 
@@ -456,6 +476,15 @@ def test_real_try():
         run = Run(own, "--explain", file, env=env)
         assert run.status == 0 and run.out == program(reports.largest(), "explain") and "answers the same" in run.err, run
         print(f"edges: a first answer by the real `rt try` took {time.monotonic() - began:.1f} s")
+
+
+def test_real_try_of_slots():
+    """And for opened slots, as many as there may be."""
+    if tried := really_tried("real-slots"):
+        own, env = tried
+        data = cards.data_of(cards.doubled(10, [cards.slot(7)]))
+        run = Run(own, "--open", env=env, input=data)
+        assert run.status == 0 and run.out == opened_card(data)[0] and len(run.out) == cards.FULL and "answers the same" in run.err, run
 
 
 def test_real_try_of_bytes():
@@ -627,6 +656,118 @@ def test_canonical_cut_short():
         cut.chmod(0o755)
         for words in (("--canonical", usable), ("--same", usable, usable)):
             run = Run(checkout(), *words, env=environment(PROGRAM=cut, TRY_FAILS=1))
+            assert run.status == 2 and not run.out and "no whole answer" in run.err, (text, run)
+
+
+# ---- groups of slots
+
+
+def opened_card(data):
+    """The slots that a card opens to, and the line that refuses it."""
+    (number, place, group, item, written), left = open_groups(data, bytes(cards.FULL))
+    return left[:written], words_for(6, number, group if number > 44 else place, item, 0, 0, 0) if number else ""
+
+
+def card_bytes():
+    """Cards of each answer, small and large."""
+    small = cards.data_of(cards.SMALL)
+    whole = [cards.data_of(groups) for groups in cards.whole()]
+    return [*whole, b"", small[:1], small[:70], small[:-1], small + b"\0", cards.number(65), cards.number(0), *[*cards.damaged()][-40:]]
+
+
+def long_card(length=1048575):
+    """A card so long, by default as long as one may be here: the last of three groups is a slot, and the one before is never named."""
+    left = length - len(cards.data_of([[cards.slot(1)], [], [cards.slot(3)]]))
+    slots = next(n for n in range(left // 56, 0, -1) if (left - 56 * n) % 3 == 0)
+    data = cards.data_of([[cards.slot(1)], [cards.slot(2)] * slots + [0] * ((left - 56 * slots) // 3), [cards.slot(3)]])
+    assert len(data) == length
+    return data
+
+
+def test_open():
+    told = {}
+    some = card_bytes()
+    with concurrent.futures.ThreadPoolExecutor(2) as pool:
+        for data, run in zip(some, pool.map(lambda data: Run(box, "--open", input=data), some)):
+            text, why = opened_card(data)
+            told[why.split(":")[0]] = told.get(why.split(":")[0], 0) + 1
+            if why:
+                refused_line(run, 1, f"zakvind: standard input: {why[:-1]}")
+            else:
+                assert run.status == 0 and run.out == text and not run.err, run
+    assert sorted(told) == ["", *(f"refused {n}" for n in (2, 3, 4, 45, 46, 5))], told
+    file = room / "a\nb.card"
+    file.write_bytes(cards.data_of(cards.NESTED))
+    for words in ((file,), ("--", file)):
+        run = Run(box, "--open", *words)
+        assert run.status == 0 and run.out == opened_card(file.read_bytes())[0] and not run.err, run
+    file.write_bytes(cards.data_of(cards.SMALL)[:-1])
+    refused_line(Run(box, "--open", file), 1, "\\nb.card': refused 2: sheet ends early, byte ")
+    one_line(Run(box, "--open", SHEETS), "folder")
+    one_line(Run(box, "--open", stdin=None, preexec_fn=lambda: os.close(0)), "cannot be read")
+    # neither Python nor a sheet is needed
+    lacking = environment(path=str(tools(room / "open-plain")))
+    run = Run(box, "--open", input=cards.data_of(cards.SMALL), env=lacking)
+    assert run.status == 0 and run.out == opened_card(cards.data_of(cards.SMALL))[0] and not run.err, run
+    refused_line(Run(box, "--open", SHEETS / "usable.sheet", env=lacking), 1, "usable.sheet: refused 5: value outside its field, byte 4")
+
+
+def test_open_long():
+    """A card may be longer than any sheet; one that is longer than what is kept is not judged at all, and never by a part of it."""
+    for n in (56_415, 56_416, 65_535, 65_536, 65_537, 100_000, 1_048_575):
+        whole = long_card(n)
+        run = Run(box, "--open", input=whole)
+        assert run.status == 0 and run.out == whole[-56:] and not run.err, run
+        refused_line(Run(box, "--open", input=whole[:-1]), 1, f"refused 2: sheet ends early, byte {n - 4}")
+        if n < 1_048_575:
+            refused_line(Run(box, "--open", input=whole + b"\0"), 1, f"refused 3: bytes after the sheet, byte {n}")
+    for data in (whole + b"\0", whole + bytes(1000), whole[:-56] + whole):
+        one_line(Run(box, "--open", input=data), "standard input: is longer than the 1048575 bytes that this command takes", "the library takes any length")
+        one_line(Run(checkout(), "--open", input=data), "is longer than the 1048575 bytes")
+    with open("/dev/zero", "rb") as zeros:
+        one_line(Run(box, "--open", stdin=zeros), "is longer than")
+
+
+def test_first_open():
+    """Before the proofs, and what becomes of that answer."""
+    good, bad = room / "first.card", room / "first-refused.card"
+    good.write_bytes(cards.data_of(cards.NESTED))
+    bad.write_bytes(cards.data_of([[cards.slot(1)], [1]]))
+    text = opened_card(good.read_bytes())[0]
+    for file, status, out in ((good, 0, text), (bad, 1, b"")):
+        own = checkout()
+        first = Run(own, "--open", file)
+        assert first.status == status and first.out == out and "before their proofs" in first.err and "answers the same" in first.err, first
+        assert ("refused 45: count 0, or a group that is not an earlier one, group 1, item 0\n" in first.err) == (file == bad), first
+        later = Run(own, "--open", file)
+        assert later.status == status and later.out == out and later.err.count("\n") == status, later
+        run = Run(checkout(), "--open", file, env=environment(TRY_FAILS=1))
+        assert run.status == status and run.out == out and "no answer before the proofs" in run.err, run
+        run = Run(checkout(), "--open", file, env=environment(CHECK_FAILS=1))
+        assert run.status == 2 and "could not be proved" in run.err, run
+    # bytes that the proved program does not confirm are not followed by others, a refusal is
+    liar = room / "other_slots"
+    liar.write_text("#!/bin/sh\nhead -c 112 /dev/zero\necho opened 112 >&2\n")
+    liar.chmod(0o755)
+    for file in (good, bad):
+        run = Run(checkout(), "--open", file, env=environment(TRIED=liar))
+        assert run.status == 2 and run.out == bytes(112) and "are not its answer" in run.err, run
+    liar.write_text("#!/bin/sh\necho 'refused 2: sheet ends early, byte 0' >&2\n")
+    run = Run(checkout(), "--open", good, env=environment(TRIED=liar))
+    assert run.status == 2 and run.out == text and "answers otherwise, and this is its answer" in run.err, run
+
+
+def test_open_cut_short():
+    """Other bytes than are said, bytes or a refusal without a word, words that refuse nothing: no answer."""
+    cut, card = room / "cut_slots", room / "cut.card"
+    card.write_bytes(cards.data_of(cards.SMALL))
+    texts = ("true", "head -c 56 /dev/zero", "echo opened 56 >&2", "echo opened 0 >&2", "head -c 56 /dev/zero; echo opened 112 >&2", "echo x >&2")
+    more = ("head -c 56 /dev/zero; echo refused 2: x >&2", "printf 'refused 2: x' >&2", "printf 'refused 2: x\nrefused 3: x\n' >&2", "echo nothing is refused >&2")
+    for text in (*texts, *more):
+        cut.write_text(f"#!/bin/sh\n{text}\n")
+        cut.chmod(0o755)
+        for env in (environment(PROGRAM=cut, TRY_FAILS=1), environment(PROGRAM=cut)):
+            run = Run(checkout(), "--open", card, env=env)
             assert run.status == 2 and not run.out and "no whole answer" in run.err, (text, run)
 
 

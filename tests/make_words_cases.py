@@ -10,7 +10,7 @@ from printed import CALLS, words
 
 
 def cases():
-    for call in (*range(7), U64):
+    for call in (*range(8), U64):
         for number in (*range(50), U64 - 1, U64):
             yield call, number, 1, 2, 3, 4, 5
             yield call, number, U64, U64, U64, U64, U64
@@ -22,7 +22,7 @@ def cases():
             yield 3, number, 11, kind, 12, 13, 14
     rng = random.Random(27)
     for _ in range(300):
-        call = rng.randrange(1, 6)
+        call = rng.randrange(1, 7)
         yield call, rng.choice(CALLS[call]), *(rng.choice((rng.randrange(5), rng.randrange(U64 + 1))) for _ in range(5))
 
 

@@ -52,8 +52,15 @@ def explanation(refusal):
     return f"refused {number}: " + ", ".join([words, *(f"{name} {value}" for name, value in items)]) + "\n"
 
 
-# the numbers that a call refuses with: 1 reads a sheet, 2 builds, 3 submits, 4 appends an instance, 5 writes a sheet
-CALLS = {1: range(1, 6), 2: (4, 5, 6, *range(10, 40)), 3: (4, 5, 6, 21, *range(39, 45)), 4: (6, 34, 35, 39), 5: (*range(1, 6), 39)}
+# the numbers that a call refuses with: 1 reads a sheet, 2 builds, 3 submits, 4 appends an instance, 5 writes a sheet, 6 opens groups
+CALLS = {
+    1: range(1, 6),
+    2: (4, 5, 6, *range(10, 40)),
+    3: (4, 5, 6, 21, *range(39, 45)),
+    4: (6, 34, 35, 39),
+    5: (*range(1, 6), 39),
+    6: (*range(2, 6), 39, 45, 46),
+}
 
 
 def words(call, number, e0, e1, f0, f1, f2):
@@ -62,7 +69,9 @@ def words(call, number, e0, e1, f0, f1, f2):
         return explanation(None)
     if number not in CALLS.get(call, ()):
         return f"refused {number}: no such cause\n"
-    if call == 1 or (call == 5 and number != 39):
+    if call == 6 and number in (45, 46):
+        return f"refused {number}: {CAUSES[number].words}, group {e0}, item {e1}\n"
+    if call == 1 or (call in (5, 6) and number != 39):
         return explanation(("sheet", number, e0, ()))
     if call == 2:
         return explanation(("build", number, (e0, e1), (f0, f1, f2)))

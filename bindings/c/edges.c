@@ -1,5 +1,6 @@
-/* The header against the library: records packed and unpacked, the room of a build, empty tables, a sheet written anew, words, a
- * refused append, and how much stack each call uses, with the largest tables and sheet. Every answer is held against what it must be. */
+/* The header against the library: records packed and unpacked, the room of a build, empty tables, a sheet written anew, opened groups,
+ * words, a refused append, and how much stack each call uses, with the largest tables, sheet and groups. Every answer is held against what it
+ * must be. */
 #define _GNU_SOURCE
 #include <zakvind.h>
 
@@ -210,6 +211,7 @@ static void nothing(void)
     must(zakvind_read_sheet(none, 0).number == ZAKVIND_TRUNCATED, "a sheet of nothing");
     must(zakvind_write_sheet(none, 0, none, 0).number == ZAKVIND_TRUNCATED, "a sheet of nothing written");
     must(zakvind_write_sheet(sheet, sizeof sheet, none, 0).number == ZAKVIND_OUTPUT_TOO_SHORT, "a sheet without room");
+    must(zakvind_open_groups(none, 0, none, 0).number == ZAKVIND_TRUNCATED, "groups of nothing opened");
     must(zakvind_report(none, 0, none, 0).number == ZAKVIND_OUTPUT_TOO_SHORT, "a text without room");
 }
 
@@ -265,6 +267,124 @@ static void written(void)
     sheet[before.sections[7].start + ZAKVIND_SLOT_BYTES + 7] ^= 1;
 }
 
+/* ---- groups */
+
+static uint8_t groups[2 + ZAKVIND_MOST_GROUPS * 2 + (ZAKVIND_MOST_SLOTS + 1) * ZAKVIND_SLOT_BYTES + 1000];
+static uint8_t opened[ZAKVIND_MOST_SLOTS * ZAKVIND_SLOT_BYTES + 8];
+static size_t groups_len;
+
+static void begin_groups(uint16_t count)
+{
+    zakvind_put(groups, 2, count);
+    groups_len = 2;
+}
+
+static void put_group(uint16_t items)
+{
+    zakvind_put(groups + groups_len, 2, items);
+    groups_len += 2;
+}
+
+/* a present slot is an item as it is */
+static void put_slot(uint16_t blas)
+{
+    zakvind_slot r = zakvind_slot_default();
+    r.present = 1;
+    r.blas = blas;
+    r.mask = 255;
+    zakvind_pack_slot(groups + groups_len, &r);
+    groups_len += ZAKVIND_SLOT_BYTES;
+}
+
+static void put_name(uint16_t group)
+{
+    groups[groups_len] = 2;
+    zakvind_put(groups + groups_len + 1, 2, group);
+    groups_len += 3;
+}
+
+static zakvind_opened opens(size_t room)
+{
+    memset(opened, 0x5a, sizeof opened);
+    const zakvind_opened a = zakvind_open_groups(groups, groups_len, opened, room);
+    must(all(opened + a.written, sizeof opened - a.written, 0x5a), "what is past the slots is kept, and all where they are refused");
+    must(!a.number || a.written == 0, "a refusal writes nothing");
+    return a;
+}
+
+static int refused(zakvind_opened a, uint64_t number, uint64_t place, uint64_t group, uint64_t item)
+{
+    return a.number == number && a.place == place && a.group == group && a.item == item;
+}
+
+static void opened_groups(void)
+{
+    static const uint16_t order[] = {1, 3, 1, 2};
+    begin_groups(2);
+    put_group(1);
+    put_slot(1);
+    put_group(4);
+    put_name(0);
+    put_slot(3);
+    put_name(0);
+    put_slot(2);
+    const size_t four = 4 * ZAKVIND_SLOT_BYTES;
+    zakvind_opened a = opens(four);
+    must(refused(a, 0, 0, 0, 0) && a.written == four, "groups with exactly their room");
+    for (size_t i = 0; i < 4; i++) {
+        const zakvind_slot r = zakvind_unpack_slot(opened + i * ZAKVIND_SLOT_BYTES);
+        must(r.present == 1 && r.blas == order[i] && r.mask == 255, "slots in written order");
+    }
+    must(opens(sizeof opened).written == four, "groups with more room");
+    must(refused(opens(four - 1), ZAKVIND_OUTPUT_TOO_SHORT, 0, 0, 0), "groups with a byte less of room");
+    groups_len--;
+    must(refused(opens(0), ZAKVIND_TRUNCATED, groups_len - 3, 0, 0), "groups cut short");
+    groups_len += 2;
+    groups[groups_len - 1] = 0;
+    must(refused(opens(four), ZAKVIND_TRAILING_BYTES, groups_len - 1, 0, 0), "bytes left over");
+    begin_groups(ZAKVIND_MOST_GROUPS + 1);
+    must(refused(opens(four), ZAKVIND_TOO_MANY, 0, 0, 0), "too many groups");
+    begin_groups(0);
+    must(refused(opens(four), ZAKVIND_INVALID_GROUP, 0, 0, 0), "no group");
+    begin_groups(2);
+    put_group(2);
+    put_slot(1);
+    groups[groups_len++] = 3;
+    must(refused(opens(four), ZAKVIND_INVALID_VALUE, groups_len - 1, 0, 0), "another item byte");
+    groups_len--;
+    put_name(0);
+    must(refused(opens(four), ZAKVIND_INVALID_GROUP, 0, 0, 1), "a group that names itself");
+    begin_groups(2);
+    put_group(1);
+    put_slot(1);
+    put_group(0);
+    must(refused(opens(four), ZAKVIND_INVALID_GROUP, 0, 1, 0), "a group of nothing");
+    /* as many slots as there may be, and one more, written out and named */
+    for (uint16_t more = 0; more < 2; more++) {
+        begin_groups(1);
+        put_group((uint16_t)(ZAKVIND_MOST_SLOTS + more));
+        for (uint16_t i = 0; i < ZAKVIND_MOST_SLOTS + more; i++)
+            put_slot(i);
+        a = opens(ZAKVIND_MOST_SLOTS * ZAKVIND_SLOT_BYTES);
+        must(more ? refused(a, ZAKVIND_TOO_MANY_SLOTS, 0, 0, ZAKVIND_MOST_SLOTS) : a.written == ZAKVIND_MOST_SLOTS * ZAKVIND_SLOT_BYTES,
+             "512 slots and 513");
+        must(more || memcmp(opened, groups + 4, ZAKVIND_MOST_SLOTS * ZAKVIND_SLOT_BYTES) == 0, "slots as they are written");
+    }
+}
+
+/* 64 groups, each of which names the one before so often */
+static void nest(uint16_t times)
+{
+    begin_groups(ZAKVIND_MOST_GROUPS);
+    put_group(1);
+    put_slot(7);
+    for (uint16_t group = 1; group < ZAKVIND_MOST_GROUPS; group++) {
+        put_group(times);
+        for (uint16_t i = 0; i < times; i++)
+            put_name((uint16_t)(group - 1));
+    }
+}
+
 /* ---- a refused append */
 
 static void refused_append(void)
@@ -300,7 +420,10 @@ static void words(void)
     const char writes[] = "refused 39: lent output too short\n";
     told = zakvind_words(ZAKVIND_CALL_WRITE, ZAKVIND_OUTPUT_TOO_SHORT, 0, 0, 0, 0, 0, text, sizeof text);
     must(told.written == sizeof writes - 1 && memcmp(text, writes, sizeof writes - 1) == 0, "the words of a sheet without room");
-    for (uint64_t call = 0; call < 7; call++)
+    const char itself[] = "refused 45: count 0, or a group that is not an earlier one, group 3, item 4\n";
+    told = zakvind_words(ZAKVIND_CALL_GROUPS, ZAKVIND_INVALID_GROUP, 3, 4, 0, 0, 0, text, sizeof text);
+    must(told.written == sizeof itself - 1 && memcmp(text, itself, sizeof itself - 1) == 0, "the words of a group");
+    for (uint64_t call = 0; call < 8; call++)
         for (uint64_t number = 0; number < 50; number++)
             for (uint64_t e = 0; e < 6; e++) {
                 const uint64_t top = UINT64_MAX;
@@ -315,6 +438,11 @@ enum { STACK = 1 << 20 };
 
 static void reads(void) { must(zakvind_read_sheet(sheet, sizeof sheet).number == 0, "the longest sheet"); }
 static void writes(void) { must(zakvind_write_sheet(sheet, sizeof sheet, anew, sizeof anew).number == 0, "the longest sheet written"); }
+static void opens_deep(void) { must(opens(sizeof opened).written == ZAKVIND_SLOT_BYTES, "64 groups, each inside the next"); }
+static void opens_many(void)
+{
+    must(refused(opens(sizeof opened), ZAKVIND_TOO_MANY_SLOTS, 0, 0, 0), "64 groups that each name the one before twice");
+}
 static void reports(void) { told = zakvind_report(sheet, sizeof sheet, text, sizeof text); }
 
 static void submits(void)
@@ -369,6 +497,7 @@ static void stacks(void)
     } calls[] = {
         {"read_sheet", reads, ZAKVIND_STACK_BYTES},
         {"write_sheet", writes, ZAKVIND_STACK_BYTES},
+        {"open_groups", opens_deep, ZAKVIND_GROUPS_STACK_BYTES},
         {"build", build, ZAKVIND_STACK_BYTES},
         {"submit", submits, ZAKVIND_STACK_BYTES},
         {"append_instance", appends, ZAKVIND_STACK_BYTES},
@@ -377,6 +506,7 @@ static void stacks(void)
         {"words", speaks, ZAKVIND_STACK_BYTES},
     };
     const size_t thread = stack_of(rests);
+    nest(1);
     printf("C: stack in bytes:");
     for (size_t i = 0; i < sizeof calls / sizeof *calls; i++) {
         const size_t used = stack_of(calls[i].call) - thread;
@@ -386,6 +516,8 @@ static void stacks(void)
 #endif
     }
     putchar('\n');
+    nest(2);
+    opens_many();
 }
 
 int main(void)
@@ -396,9 +528,10 @@ int main(void)
     room_fits();
     nothing();
     written();
+    opened_groups();
     refused_append();
     words();
     stacks();
-    puts("C: records, room, empty tables, written sheets, appends and stack are as is said");
+    puts("C: records, room, empty tables, written sheets, opened groups, appends and stack are as is said");
     return 0;
 }

@@ -79,6 +79,9 @@ pub fn write(case: &Case) -> String {
             write_table(&mut out, TLASES, tlases);
             let _ = writeln!(out, "instance {tlas} {}\nroom {room} {used}", hex(instance));
         }
+        Case::Groups { bytes, room } => {
+            let _ = writeln!(out, "room {room}\nbytes {}", hex(bytes));
+        }
     }
     out
 }
@@ -117,6 +120,7 @@ pub fn read(text: &str) -> Result<Case, String> {
             ("indices", _) => indices = rest(1)?.try_into().map_err(|_| bad())?,
             ("room", "sheet") => sheet_room = words.get(1).and_then(|w| w.parse().ok()).ok_or_else(bad)?,
             ("room", "append") => (room, used) = (number(1)?, number(2)?),
+            ("room", "groups") => room = number(1)?,
             ("room", _) => {
                 let k = ROOMS.iter().position(|n| Some(n) == words.get(1)).ok_or_else(bad)?;
                 rooms[k] = number(2)? as usize;
@@ -154,6 +158,7 @@ pub fn read(text: &str) -> Result<Case, String> {
         }
         "submission" => Ok(Case::Submit { indices, blases, tlases, dependency_counts: counts, dependencies: cells, pieces }),
         "append" => Ok(Case::Append { tlases, blases, tlas, instance, room: room as usize, used }),
+        "groups" => Ok(Case::Groups { bytes: bytes.unwrap_or_default(), room: room as usize }),
         _ => Err(format!("no such kind of case: {kind}")),
     }
 }
@@ -162,7 +167,7 @@ pub fn read(text: &str) -> Result<Case, String> {
 pub fn difference(rust: &[Part], other: &[Part]) -> String {
     let mut out = String::new();
     for (a, b) in rust.iter().zip(other) {
-        let answer = ["read", "report", "write", "build", "submit", "append"].contains(&a.name);
+        let answer = ["read", "report", "write", "build", "submit", "append", "open"].contains(&a.name);
         if answer || a != b {
             let mark = if a == b { " " } else { "*" };
             if answer || a.values.len() <= 8 {

@@ -54,6 +54,11 @@ pub fn bytes(case: &Case, text: usize) -> Option<Vec<u8>> {
             out.extend_from_slice(tlases);
             out.extend_from_slice(blases);
         }
+        Case::Groups { bytes, room } => {
+            out.push(4);
+            put(&mut out, &[*room as u16], 2);
+            out.extend_from_slice(bytes);
+        }
     }
     Some(out)
 }

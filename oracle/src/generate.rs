@@ -904,6 +904,119 @@ fn append(r: &mut Rng) -> Case {
     Case::Append { tlases: tlas_table, blases: blas_table, tlas: id(r, tlases as usize), instance, room, used }
 }
 
+/// An item of a group: the bytes of a slot, or the number of a group.
+enum Item {
+    Slot([u8; 55]),
+    Named(u64),
+}
+
+fn slot_item(r: &mut Rng) -> Item {
+    let mut one = Raw::default();
+    let id = r.below(65536);
+    one.push(SLOTS, &slot_record(r, true, id));
+    Item::Slot(one.table(SLOTS)[1..].try_into().unwrap())
+}
+
+/// How many slots a group opens to, `counts` being those of the groups before it; no more than 2^32 are told.
+fn opened(items: &[Item], counts: &[u64]) -> u64 {
+    items.iter().map(|i| if let Item::Named(g) = i { counts.get(*g as usize).copied().unwrap_or(0) } else { 1 }).sum::<u64>().min(1 << 32)
+}
+
+/// A group in turn: slots and groups before it.
+fn group(r: &mut Rng, earlier: u64) -> Vec<Item> {
+    let many = r.from(5, 40);
+    let n = r.pick(&[1, 1, 2, 2, 3, 4, many]);
+    (0..n).map(|_| if earlier > 0 && r.chance(60) { Item::Named(r.below(earlier)) } else { slot_item(r) }).collect()
+}
+
+/// A last group that opens to about as many slots as there may be.
+fn filled(r: &mut Rng, counts: &[u64]) -> Vec<Item> {
+    let (mut items, mut left) = (Vec::new(), r.pick(&[511, 512, 512, 513, 513, 514, 1000]));
+    while left > 0 && items.len() < 300 {
+        let fits: Vec<usize> = (0..counts.len()).filter(|&g| counts[g] <= left).collect();
+        let most = fits.iter().copied().max_by_key(|&g| counts[g]);
+        match most {
+            Some(g) if counts[g] > 1 || r.chance(50) => {
+                let g = if r.chance(80) { g } else { r.pick(&fits) };
+                left -= counts[g];
+                items.push(Item::Named(g as u64));
+            }
+            _ => {
+                left -= 1;
+                items.push(slot_item(r));
+            }
+        }
+    }
+    for i in (1..items.len()).rev() {
+        items.swap(i, r.index(i + 1));
+    }
+    items
+}
+
+fn group_bytes(items: &[Item], count: u64, out: &mut Vec<u8>) {
+    put_number(out, count, 2);
+    for item in items {
+        match item {
+            Item::Slot(fields) => out.extend([&[1], &fields[..]].concat()),
+            Item::Named(g) => {
+                out.push(2);
+                put_number(out, *g, 2);
+            }
+        }
+    }
+}
+
+fn groups(r: &mut Rng) -> Case {
+    let few = r.from(1, 6);
+    let n = r.pick(&[few, few, few, few, 63, 64]);
+    let (mut all, mut counts): (Vec<Vec<Item>>, Vec<u64>) = (Vec::new(), Vec::new());
+    let doubled = r.chance(10);
+    for g in 0..n {
+        let items = match g {
+            1.. if doubled => vec![Item::Named(g - 1), Item::Named(g - 1)],
+            1.. if g == n - 1 && r.chance(40) => filled(r, &counts),
+            _ => group(r, g),
+        };
+        let items = if items.is_empty() { vec![slot_item(r)] } else { items };
+        counts.push(opened(&items, &counts));
+        all.push(items);
+    }
+    let (mut count, mut item_counts) = (n, all.iter().map(|items| items.len() as u64).collect::<Vec<u64>>());
+    // a name or a count that is another
+    if r.chance(15) {
+        let (g, named) = (r.index(all.len()), r.pick(&[0, 1, n - 1, n, 63, 64, 255, 65535]));
+        let named = if r.chance(50) { g as u64 } else { named };
+        let i = r.index(all[g].len());
+        all[g][i] = Item::Named(named);
+    }
+    if r.chance(4) {
+        count = r.pick(&[0, 1, n + 1, 64, 65, 256, 65535]);
+    }
+    if r.chance(4) {
+        let g = r.index(all.len());
+        item_counts[g] = r.pick(&[0, 1, item_counts[g] + 1, 256, 65535]);
+    }
+    let mut bytes = Vec::new();
+    put_number(&mut bytes, count, 2);
+    for (items, n) in all.iter().zip(&item_counts) {
+        group_bytes(items, *n, &mut bytes);
+    }
+    match r.below(100) {
+        0..6 => bytes.truncate(r.index(bytes.len())),
+        6..9 => bytes.extend((0..r.from(1, 4)).map(|_| r.byte() as u8).collect::<Vec<u8>>()),
+        9..16 => {
+            let i = r.index(bytes.len());
+            let any = r.byte() as u8;
+            bytes[i] = r.pick(&[0, 1, 2, 3, 255, any]);
+        }
+        _ => {}
+    }
+    let needed = counts.last().map_or(0, |n| n * SIZES[SLOTS] as u64);
+    let less = needed.saturating_sub(1);
+    let room = r.pick(&[needed, needed, needed, needed + 1, needed + 300, less, needed / 2, 0]);
+    Case::Groups { bytes, room: room.min(40_000) as usize }
+}
+
 /// Case `index` of a seed.
 pub fn case(seed: u64, index: u64) -> Case {
     let r = &mut Rng::new(seed, index);
@@ -911,6 +1024,7 @@ pub fn case(seed: u64, index: u64) -> Case {
         0..40 => sheet(r),
         40..70 => build(r),
         70..95 => submission(r),
-        _ => append(r),
+        95..98 => append(r),
+        _ => groups(r),
     }
 }

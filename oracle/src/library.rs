@@ -79,4 +79,9 @@ impl Side for Library {
         let a = raw::write_sheet(sheet, out);
         [a.number, a.place, a.written]
     }
+
+    fn open(&mut self, groups: &[u8], slots: &mut [u8]) -> [u64; 5] {
+        let a = raw::open_groups(groups, slots);
+        [a.number, a.place, a.group, a.item, a.written]
+    }
 }

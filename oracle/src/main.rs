@@ -5,6 +5,7 @@ mod compare;
 mod corpus;
 mod examples;
 mod generate;
+mod groups;
 mod layout;
 #[cfg(library)]
 mod library;
@@ -115,13 +116,14 @@ fn run() {
         // each fault of the second reading must be found
         Some("faults") => {
             let Some(count) = word(1).and_then(|w| w.parse().ok()) else { usage() };
-            let missed: Vec<u32> = (1..=reading::FAULTS)
+            let all = reading::FAULTS + groups::FAULTS;
+            let missed: Vec<u32> = (1..=all)
                 .filter(|&fault| {
                     let name = format!("fault {fault}");
                     compare::run(&mut reading::Reading { fault }, &name, count, 1, 1, true, &out)
                 })
                 .collect();
-            println!("{} of {} faults found; not found: {missed:?}", reading::FAULTS as usize - missed.len(), reading::FAULTS);
+            println!("{} of {all} faults found; not found: {missed:?}", all as usize - missed.len());
             if !missed.is_empty() {
                 exit(1);
             }

@@ -9,7 +9,7 @@ pub struct Reading {
     pub fault: u32,
 }
 
-/// How many faults there are, from 1 on.
+/// How many faults there are, from 1 on; those of opened groups follow.
 pub const FAULTS: u32 = 60;
 
 const TOP: u64 = u64::MAX;
@@ -850,5 +850,9 @@ impl Side for Reading {
         }
         out[..text.len()].copy_from_slice(text.as_bytes());
         [0, text.len() as u64]
+    }
+
+    fn open(&mut self, groups: &[u8], slots: &mut [u8]) -> [u64; 5] {
+        crate::groups::open(groups, slots, self.fault.saturating_sub(FAULTS))
     }
 }

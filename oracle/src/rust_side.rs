@@ -518,6 +518,13 @@ impl Side for RustSide {
             None => [39, 0],
         }
     }
+
+    /// By a second reading of the request: the Rust has no groups.
+    fn open(&mut self, groups: &[u8], slots: &mut [u8]) -> [u64; 5] {
+        let answer = crate::groups::open(groups, slots, 0);
+        self.tally.answer("open", answer[0], Mark::Paper);
+        answer
+    }
 }
 
 /// Runs `f`; a panic would be a fault of the harness and is told.

@@ -336,6 +336,20 @@ fn smaller_sheet(case: &Case, take: &mut dyn FnMut(Case) -> bool) -> bool {
     }
 }
 
+/// Shorter bytes and lower ones; and without some of its bytes.
+fn smaller_groups(case: &Case, take: &mut dyn FnMut(Case) -> bool) -> bool {
+    let Case::Groups { bytes, room } = case else { return false };
+    for less in lower(*room as u64) {
+        offer!(take, Case::Groups { bytes: bytes.clone(), room: less as usize });
+    }
+    for unit in [SIZES[SLOTS], 3, 1] {
+        for less in without_units(bytes, unit) {
+            offer!(take, Case::Groups { bytes: less, room: *room });
+        }
+    }
+    smaller_bytes(bytes).into_iter().any(|bytes| take(Case::Groups { bytes, room: *room }))
+}
+
 /// The smallest case that is found and still fails. After a smaller case was taken the search goes on where it was.
 pub fn shrink(mut case: Case, fails: &mut dyn FnMut(&Case) -> bool) -> Case {
     let start = std::time::Instant::now();
@@ -361,6 +375,7 @@ pub fn shrink(mut case: Case, fails: &mut dyn FnMut(&Case) -> bool) -> Case {
             Case::Build { .. } => smaller_build(&case, &mut take),
             Case::Submit { .. } => smaller_submission(&case, &mut take),
             Case::Append { .. } => smaller_append(&case, &mut take),
+            Case::Groups { .. } => smaller_groups(&case, &mut take),
         };
         match found {
             Some(c) => (case, from, better) = (c, at - 1, true),

@@ -43,6 +43,8 @@ pub trait Side {
         part.copy_from_slice(&bytes);
         [0, 0, bytes.len() as u64]
     }
+    /// number, place, group, item, bytes written
+    fn open(&mut self, groups: &[u8], slots: &mut [u8]) -> [u64; 5];
 }
 
 /// Elements past what is lent, which no call may touch.
@@ -95,6 +97,10 @@ pub enum Case {
         room: usize,
         used: u64,
     },
+    Groups {
+        bytes: Vec<u8>,
+        room: usize,
+    },
 }
 
 /// Every answer and every lent element after a call, by name.
@@ -115,6 +121,7 @@ impl Case {
             Case::Build { .. } => "build",
             Case::Submit { .. } => "submission",
             Case::Append { .. } => "append",
+            Case::Groups { .. } => "groups",
         }
     }
 
@@ -203,6 +210,12 @@ impl Case {
                 let answer = side.append(&given.0, &given.1, *tlas, &given.2, &mut instances[..*room], *used);
                 let kept = given.0 == *tlases && given.1 == *blases && given.2 == *instance;
                 vec![part("append", &answer), part("instances", &instances), part("inputs kept", &[u64::from(kept)])]
+            }
+            Case::Groups { bytes, room } => {
+                let given = bytes.clone();
+                let mut slots = pattern_u8(*room);
+                let answer = side.open(&given, &mut slots[..*room]);
+                vec![part("open", &answer), part("slots", &slots), part("inputs kept", &[u64::from(given == *bytes)])]
             }
         }
     }

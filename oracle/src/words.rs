@@ -1,7 +1,7 @@
 //! A refusal in words, from the paper's table "Causes and what they cost": a second reading of it.
 
 /// The column "Cause", and the figures that are told.
-const CAUSES: [(u64, &str, &[&str]); 41] = [
+const CAUSES: [(u64, &str, &[&str]); 43] = [
     (1, "version not 1", &[]),
     (2, "sheet ends early", &[]),
     (3, "bytes after the sheet", &[]),
@@ -43,6 +43,8 @@ const CAUSES: [(u64, &str, &[&str]); 41] = [
     (42, "Blas without number", &["Blas", "Tlas"]),
     (43, "Tlas without number", &["Tlas"]),
     (44, "Blas newer than Tlas", &["Blas", "Tlas"]),
+    (45, "count 0, or a group that is not an earlier one", &[]),
+    (46, "more than 512 slots", &[]),
 ];
 
 fn item((word, value): (&&str, &u64)) -> String {
@@ -62,7 +64,7 @@ fn place(number: u64, sort: u64) -> &'static [&'static str] {
     }
 }
 
-/// Whether a call can refuse with a number: 1 reads a sheet, 2 builds, 3 submits, 4 appends an instance, 5 writes a sheet.
+/// Whether a call can refuse with a number: 1 reads a sheet, 2 builds, 3 submits, 4 appends an instance, 5 writes a sheet, 6 opens groups.
 fn refuses_with(call: u64, number: u64) -> bool {
     match call {
         1 => (1..=5).contains(&number),
@@ -70,11 +72,13 @@ fn refuses_with(call: u64, number: u64) -> bool {
         3 => matches!(number, 4..=6 | 21 | 39..=44),
         4 => matches!(number, 6 | 34 | 35 | 39),
         5 => matches!(number, 1..=5 | 39),
+        6 => matches!(number, 2..=5 | 39 | 45 | 46),
         _ => false,
     }
 }
 
-/// A refusal of a call. E of a sheet, read or written, is its place, of a submission the action and its kind.
+/// A refusal of a call. E of a sheet, read or written, is its place, of a submission the action and its kind, of groups the place, or the
+/// group and the item.
 pub fn words(call: u64, number: u64, e: [u64; 2], f: [u64; 3]) -> String {
     if number == 0 {
         return "nothing is refused\n".into();
@@ -84,7 +88,8 @@ pub fn words(call: u64, number: u64, e: [u64; 2], f: [u64; 3]) -> String {
     let mut line = format!("refused {number}: {cause}");
     match call {
         1 => line += &format!(", byte {}", e[0]),
-        5 if number != 39 => line += &format!(", byte {}", e[0]),
+        6 if number > 44 => line.extend(["group", "item"].iter().zip(&e).map(item)),
+        5 | 6 if number != 39 => line += &format!(", byte {}", e[0]),
         2 => {
             line.extend(place(number, f[0]).iter().zip(&e).map(item));
             let sort = match (number, f[0]) {

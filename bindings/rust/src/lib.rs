@@ -36,6 +36,7 @@
 
 mod building;
 mod format;
+mod groups;
 mod layout;
 mod misfit;
 mod naming;
@@ -50,6 +51,7 @@ pub use building::{
     append_instance, build_acceleration_structures,
 };
 pub use format::{Allowed, Field, KindOf, Section, Used};
+pub use groups::{MOST_GROUPS, OpenRefused, open_groups, opened_slots};
 pub use layout::*;
 pub use misfit::{At, May, Misfit};
 pub use raw::CommandIndices;

@@ -104,12 +104,29 @@ pub struct Written {
     pub written: u64,
 }
 
+/// `zakvind_opened`: what opening groups of slots came to.
+#[repr(C)]
+#[derive(Clone, Copy, Debug, PartialEq, Eq)]
+pub struct Opened {
+    /// 0, or why they are refused
+    pub number: u64,
+    /// of the refused byte, of 2 to 5
+    pub place: u64,
+    /// as written, of 45 and 46
+    pub group: u64,
+    /// as written, of 45 and 46
+    pub item: u64,
+    /// bytes of slots
+    pub written: u64,
+}
+
 mod ffi {
-    use super::{Appended, Built, CommandIndices, Reported, Sheet, Submitted, Written};
+    use super::{Appended, Built, CommandIndices, Opened, Reported, Sheet, Submitted, Written};
 
     unsafe extern "C" {
         pub fn zakvind_read_sheet(sheet: *const u8, sheet_len: usize) -> Sheet;
         pub fn zakvind_write_sheet(sheet: *const u8, sheet_len: usize, out: *mut u8, out_len: usize) -> Written;
+        pub fn zakvind_open_groups(groups: *const u8, groups_len: usize, slots: *mut u8, slots_len: usize) -> Opened;
         pub fn zakvind_build(
             alignment: u32,
             buffers: *const u8,
@@ -196,6 +213,11 @@ pub fn read_sheet(sheet: &[u8]) -> Sheet {
 /// `zakvind_write_sheet`.
 pub fn write_sheet(sheet: &[u8], out: &mut [u8]) -> Written {
     unsafe { ffi::zakvind_write_sheet(sheet.as_ptr(), sheet.len(), out.as_mut_ptr(), out.len()) }
+}
+
+/// `zakvind_open_groups`.
+pub fn open_groups(groups: &[u8], slots: &mut [u8]) -> Opened {
+    unsafe { ffi::zakvind_open_groups(groups.as_ptr(), groups.len(), slots.as_mut_ptr(), slots.len()) }
 }
 
 /// `zakvind_build`; `tables` are sections 1 to 8.

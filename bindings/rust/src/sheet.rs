@@ -39,7 +39,7 @@ impl SheetError {
         }
     }
 
-    fn from_number(number: u64) -> SheetError {
+    pub(crate) fn from_number(number: u64) -> SheetError {
         match number {
             1 => SheetError::UnknownVersion,
             2 => SheetError::Truncated,

@@ -9,6 +9,7 @@ pub(crate) enum Call {
     Submission,
     Append,
     Write,
+    Groups,
 }
 
 impl Call {
@@ -19,6 +20,7 @@ impl Call {
             Call::Submission => 3,
             Call::Append => 4,
             Call::Write => 5,
+            Call::Groups => 6,
         }
     }
 }

@@ -2,15 +2,18 @@
 use build::build_acceleration_structures;
 use capi_answers::append_answer;
 use capi_answers::build_answer;
+use capi_answers::open_answer;
 use capi_answers::report_answer;
 use capi_answers::sheet_answer;
 use capi_answers::write_answer;
 use explain::explain;
+use groups::open_groups;
 use instance::append_instance;
 use instance_bytes::instance_from;
 use ray_tracing::AppendAnswer;
 use ray_tracing::BuildAnswer;
 use ray_tracing::CommandIndices;
+use ray_tracing::OpenAnswer;
 use ray_tracing::ReportAnswer;
 use ray_tracing::SheetAnswer;
 use ray_tracing::TlasId;
@@ -25,13 +28,14 @@ use submit::validate_acceleration_structure_actions;
 ghost use mathlib.Core.Path.{_≡_};
 ghost use Rattle.ray_tracing.specs.Reading.{readSheet};
 ghost use Rattle.ray_tracing.specs.Canonical.{WritesSheetAs};
+ghost use Rattle.ray_tracing.specs.Groups.{OpensGroupsAs};
 ghost use Rattle.ray_tracing.specs.Plan.{tablesOf, outputsOf, BuildsAs};
 ghost use Rattle.ray_tracing.specs.Instances.{instanceFrom, AppendsAs};
 ghost use Rattle.ray_tracing.specs.Submission.{buffersOf, pieceOf, Validates};
 ghost use Rattle.ray_tracing.specs.Report as Report;
 ghost use Rattle.ray_tracing.specs.Report.{PutsAs};
 ghost use Rattle.ray_tracing.specs.Explain.{explained, wordsOf};
-ghost use Rattle.ray_tracing.specs.Answers.{sheetAnswer, writeAnswer, builtAnswer, appendAnswer, reportAnswer};
+ghost use Rattle.ray_tracing.specs.Answers.{sheetAnswer, writeAnswer, openAnswer, builtAnswer, appendAnswer, reportAnswer};
 
 #[no_mangle]
 pub extern "C" fn zakvind_read_sheet(sheet: &[u8]) -> SheetAnswer
@@ -45,6 +49,13 @@ pub extern "C" fn zakvind_write_sheet(sheet: &[u8], out: &mut [u8]) -> WriteAnsw
     ensures { λ r. ⌜ WritesSheetAs writeAnswer (now (sheet .entry)) (now (out .entry)) r (now (out .exit)) ⌝ }
 {
     write_answer(write_sheet(sheet, out))
+}
+
+#[no_mangle]
+pub extern "C" fn zakvind_open_groups(groups: &[u8], slots: &mut [u8]) -> OpenAnswer
+    ensures { λ r. ⌜ OpensGroupsAs openAnswer (now (groups .entry)) (now (slots .entry)) r (now (slots .exit)) ⌝ }
+{
+    open_answer(open_groups(groups, slots))
 }
 
 #[no_mangle]
@@ -160,7 +171,8 @@ pub extern "C" fn zakvind_explain(sheet: &[u8], out: &mut [u8]) -> ReportAnswer
 }
 
 // The words of a call's refusal: the call is 1 of zakvind_read_sheet (e0 its place), 2 of zakvind_build, 3 of zakvind_submit (e0 its
-// action, e1 the action's kind, 0 where it is not known), 4 of zakvind_append_instance or 5 of zakvind_write_sheet (e0 its place).
+// action, e1 the action's kind, 0 where it is not known), 4 of zakvind_append_instance, 5 of zakvind_write_sheet (e0 its place) or 6 of
+// zakvind_open_groups (e0 its place, of 45 and 46 e0 its group and e1 its item).
 #[no_mangle]
 pub extern "C" fn zakvind_words(
     call: u64,

@@ -6,6 +6,8 @@ use ray_tracing::AppendAnswer;
 use ray_tracing::Appended;
 use ray_tracing::BuildAnswer;
 use ray_tracing::Built;
+use ray_tracing::GroupsOpened;
+use ray_tracing::OpenAnswer;
 use ray_tracing::ReportAnswer;
 use ray_tracing::Reported;
 use ray_tracing::Sheet;
@@ -18,11 +20,12 @@ ghost use mathlib.Core.Path.{_≡_};
 ghost use Rattle.ray_tracing.specs.Causes.{readingOf};
 ghost use Rattle.ray_tracing.specs.Reading.{accepted, rejected};
 ghost use Rattle.ray_tracing.specs.Canonical.{unwritten, writingOf};
+ghost use Rattle.ray_tracing.specs.Groups.{unopened, openingOf};
 ghost use Rattle.ray_tracing.specs.Plan.{recorded, nothing-recorded, not-built, buildingOf};
 ghost use Rattle.ray_tracing.specs.Instances.{appendedOf};
 ghost use Rattle.ray_tracing.specs.Report.{reportedOf};
 ghost use Rattle.causes.specs.Figures.{causeOf};
-ghost use Rattle.ray_tracing.specs.Answers.{sheetAnswer, writeAnswer, builtAnswer, appendAnswer, reportAnswer};
+ghost use Rattle.ray_tracing.specs.Answers.{sheetAnswer, writeAnswer, openAnswer, builtAnswer, appendAnswer, reportAnswer};
 
 fn sheet_accepted(x: Sheet) -> SheetAnswer
     ensures { λ r. ⌜ r ≡ sheetAnswer (accepted x) ⌝ }
@@ -114,6 +117,36 @@ pub fn write_answer(written: SheetWritten) -> WriteAnswer
         },
         SheetWritten::Refused(e, place) => write_refused(sheet_number(e), place as u64),
         SheetWritten::TooShort => write_refused(39, 0),
+    }
+}
+
+fn open_refused(number: u64, place: u64, group: u64, item: u64) -> OpenAnswer
+    ensures { λ r. ⌜ r ≡ openAnswer (unopened number place group item) ⌝ }
+{
+    OpenAnswer {
+        number,
+        place,
+        group,
+        item,
+        written: 0,
+    }
+}
+
+pub fn open_answer(opened: GroupsOpened) -> OpenAnswer
+    ensures { λ r. ⌜ r ≡ openAnswer (openingOf opened) ⌝ }
+{
+    match opened {
+        GroupsOpened::Written(n) => OpenAnswer {
+            number: 0,
+            place: 0,
+            group: 0,
+            item: 0,
+            written: n as u64,
+        },
+        GroupsOpened::Refused(e, place) => open_refused(sheet_number(e), place as u64, 0, 0),
+        GroupsOpened::InvalidGroup(group, item) => open_refused(45, 0, group as u64, item as u64),
+        GroupsOpened::TooManySlots(group, item) => open_refused(46, 0, group as u64, item as u64),
+        GroupsOpened::TooShort => open_refused(39, 0, 0, 0),
     }
 }
 

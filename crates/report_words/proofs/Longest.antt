@@ -146,8 +146,15 @@ words-most call n e f x y z =
     (each-within (eqb call 1) _ _ (explanation-most (of-sheet n e))
     (each-within (eqb call 2) _ _ (explanation-most (of-build e f (cause n x y z)))
     (each-within (eqb call 3) _ _ (explanation-most (of-action e f (cause n x y z)))
-    (each-within (eqb call 4) _ _ plain-most (each-within (between 1 5 n) _ _ (explanation-most (of-sheet n e)) plain-most)))))
+    (each-within (eqb call 4) _ _ plain-most
+    (each-within (eqb call 5) _ _ sheet-most (each-within (between 45 46 n) _ _ group-most sheet-most))))))
     (simp length-append (omega (arith, digits-most 20 n))))
   where
     plain-most : length (refusedLine n []) ≤ longestExplanation
     plain-most = simp length-append (omega (arith, digits-most 20 n, cause-most n, items-most []))
+
+    sheet-most : length (cond (between 1 5 n) (explanation (of-sheet n e)) (refusedLine n [])) ≤ longestExplanation
+    sheet-most = each-within (between 1 5 n) _ _ (explanation-most (of-sheet n e)) plain-most
+
+    group-most : length (refusedLine n ("group" is e ∷ "item" is f ∷ [])) ≤ longestExplanation
+    group-most = simp length-append (omega (arith, digits-most 20 n, cause-most n, items-most ("group" is e ∷ "item" is f ∷ [])))

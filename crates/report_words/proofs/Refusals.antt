@@ -5,7 +5,7 @@ use mathlib.Core.Bool.{Bool, true, false, _&&_, _||_, cond}
 use mathlib.Core.Path.{_≡_, refl, sym, _∙_}
 use mathlib.Core.List.{List, [], _∷_, _++_, append-assoc}
 use lib.Dec.{eqb, ltb, leb}
-use borrow.Author.Tests.{ltb-true, ltb-false, leb-true, eqb-true, ne-eqb}
+use borrow.Author.Tests.{ltb-true, ltb-false, le-leb, leb-true, eqb-true, ne-eqb}
 use Rattle.ray_tracing.specs.Causes.{Cause, cause}
 use Rattle.ray_tracing.specs.Report.{ascii, decimal, digits}
 use Rattle.ray_tracing.specs.Explain.{
@@ -42,6 +42,7 @@ use Rattle.report_words.specs.Lines.{
   actionPlace,
   appendPlace,
   writePlace,
+  openPlace,
   linePlace,
 }
 
@@ -93,6 +94,20 @@ outside a b m n p q e =
     let r : between a b m ≡ false = rw e at q in
     let z : _≡_ {A = ℕ} 0 1 = cc in
     omega arith
+
+wider : (n : ℕ) → between 2 5 n ≡ true → between 1 5 n ≡ true
+wider n h =
+    let both = and-both (leb 2 n) (leb n 5) h in
+    rw (le-leb 1 n (omega (arith, leb-true 2 n (both .0))), both .1)
+
+or-last : (a b : Bool) → (a || (b || true)) ≡ true
+or-last true b = refl
+or-last false true = refl
+or-last false false = refl
+
+or-none : (b : Bool) → (b || false) ≡ b
+or-none true = refl
+or-none false = refl
 
 -- ---- the lines
 
@@ -273,34 +288,86 @@ module _ (call e f x y z : ℕ) where
       go false h true i = rw (eqb-true n 39 i) (append-39 ∙ line-is 39 [])
       go false h false i = unknown n
 
+  abbrev Open : ℕ → Type 0
+  Open n = at n (n + 14) ≡ begun n ("group" is e ∷ "item" is f ∷ [])
+
+  open-lines : AllFrom Open 45 2
+  unfolding letter filled pastLines lines digits numberFor
+  open-lines = refl and refl and end
+
+  -- the reader's but for 1, and 39
+  by-byte :
+      (n : ℕ)
+      → at n (cond (between 2 5 n) (n + 1) (cond (eqb n 39) 58 1))
+      ≡ cond (between 2 5 n || eqb n 39) (cond (between 1 5 n) (explanation (of-sheet n e)) (refusedLine n [])) (noSuchCause n)
+  unfolding explanation
+  by-byte n = go (between 2 5 n) refl (eqb n 39) refl
+    where
+      go :
+          (a : Bool)
+          → between 2 5 n ≡ a
+          → (b : Bool)
+          → eqb n 39 ≡ b
+          → at n (cond a (n + 1) (cond b 58 1))
+          ≡ cond (a || b) (cond (between 1 5 n) (explanation (of-sheet n e)) (refusedLine n [])) (noSuchCause n)
+      go true k b i = rw (wider n k) (bounded Sheet 1 5 5 n refl sheet-lines (wider n k) ∙ line-is n ("byte" is e ∷ []))
+      go false k true i = rw (eqb-true n 39 i) (append-39 ∙ line-is 39 [])
+      go false k false i = unknown n
+
+  opening :
+      (n : ℕ)
+      → at n (openPlace n)
+      ≡ cond (between 2 5 n || (eqb n 39 || between 45 46 n))
+      (cond (between 45 46 n) (refusedLine n ("group" is e ∷ "item" is f ∷ []))
+      (cond (between 1 5 n) (explanation (of-sheet n e)) (refusedLine n [])))
+      (noSuchCause n)
+  opening n = go (between 45 46 n) refl
+    where
+      go :
+          (a : Bool)
+          → between 45 46 n ≡ a
+          → at n (cond a (n + 14) (cond (between 2 5 n) (n + 1) (cond (eqb n 39) 58 1)))
+          ≡ cond (between 2 5 n || (eqb n 39 || a))
+          (cond a (refusedLine n ("group" is e ∷ "item" is f ∷ []))
+          (cond (between 1 5 n) (explanation (of-sheet n e)) (refusedLine n [])))
+          (noSuchCause n)
+      go true h = rw (or-last (between 2 5 n) (eqb n 39)) (bounded Open 45 2 46 n refl open-lines h ∙ line-is n ("group" is e ∷ "item" is f ∷ []))
+      go false h = rw (or-none (eqb n 39)) (by-byte n)
+
   -- ---- the table by call
 
   pub words-are : (n : ℕ) → at n (linePlace call n f x) ≡ wordsOf call n e f x y z
   unfolding wordsOf
-  words-are n = some (eqb n 0) _ _ (each (eqb call 1) (eqb call 2) (eqb call 3) (eqb call 4) (eqb call 5))
+  words-are n = some (eqb n 0) _ _ (each (eqb call 1) (eqb call 2) (eqb call 3) (eqb call 4) (eqb call 5) (eqb call 6))
     where
       each :
-          (a b c d g : Bool)
+          (a b c d g h : Bool)
           → at n
           (cond a (cond (between 1 5 n) (n + 1) 1)
           (cond b (buildPlace n x)
-          (cond c (actionPlace n f) (cond d (appendPlace n) (cond g (writePlace n) 1)))))
+          (cond c (actionPlace n f) (cond d (appendPlace n) (cond g (writePlace n) (cond h (openPlace n) 1))))))
           ≡ cond
           (cond a (between 1 5 n)
           (cond b (between 4 6 n || between 10 39 n)
           (cond c (between 4 6 n || (eqb n 21 || between 39 44 n))
-          (cond d (eqb n 6 || (between 34 35 n || eqb n 39)) (cond g (between 1 5 n || eqb n 39) false)))))
+          (cond d (eqb n 6 || (between 34 35 n || eqb n 39))
+          (cond g (between 1 5 n || eqb n 39)
+          (cond h (between 2 5 n || (eqb n 39 || between 45 46 n)) false))))))
           (cond a (explanation (of-sheet n e))
           (cond b (explanation (of-build e f (cause n x y z)))
           (cond c (explanation (of-action e f (cause n x y z)))
-          (cond d (refusedLine n []) (cond (between 1 5 n) (explanation (of-sheet n e)) (refusedLine n []))))))
+          (cond d (refusedLine n [])
+          (cond g (cond (between 1 5 n) (explanation (of-sheet n e)) (refusedLine n []))
+          (cond (between 45 46 n) (refusedLine n ("group" is e ∷ "item" is f ∷ []))
+          (cond (between 1 5 n) (explanation (of-sheet n e)) (refusedLine n []))))))))
           (noSuchCause n)
-      each true b c d g = sheet n
-      each false true c d g = build n
-      each false false true d g = submit n
-      each false false false true g = append n
-      each false false false false true = write n
-      each false false false false false = unknown n
+      each true b c d g h = sheet n
+      each false true c d g h = build n
+      each false false true d g h = submit n
+      each false false false true g h = append n
+      each false false false false true h = write n
+      each false false false false false true = opening n
+      each false false false false false false = unknown n
 
       some : (b : Bool) (p : ℕ) (t : List ℕ) → at n p ≡ t → at n (cond b 0 p) ≡ cond b (explanation nothing) t
       some true p t h = none n

@@ -66,8 +66,11 @@ actionLine kind n = lineOf n ("K" is 69 ∷ actionItems kind (cause n 88 89 0))
 abbrev pub appendLine : ℕ → List ℕ
 appendLine n = lineOf n []
 
+abbrev pub openText : ℕ → List ℕ
+openText n = lineOf n ("group" is 69 ∷ "item" is 70 ∷ [])
+
 -- none and any number; a sheet's; a build's, and 21 of a Blas, of a Tlas, of no sort; a submission's, with 42 of a Build, and 42 of
--- a use and of no kind; an append's
+-- a use and of no kind; an append's; a group's
 unfoldable pub lines : List ℕ
 lines =
     ascii "nothing is refused\nrefused #: no such cause\n"
@@ -84,7 +87,8 @@ lines =
     ++ (linesFrom (actionLine 1) 39 6
     ++ (actionLine 2 42
     ++ (actionLine 3 42
-    ++ (appendLine 6 ++ (linesFrom appendLine 34 2 ++ appendLine 39)))))))))))))))
+    ++ (appendLine 6
+    ++ (linesFrom appendLine 34 2 ++ (appendLine 39 ++ linesFrom openText 45 2))))))))))))))))
 
 -- Which line
 
@@ -112,6 +116,10 @@ appendPlace n = cond (between 34 35 n) (n + 22) (cond (eqb n 6) 55 (cond (eqb n 
 abbrev pub writePlace : ℕ → ℕ
 writePlace n = cond (between 1 5 n) (n + 1) (cond (eqb n 39) 58 1)
 
+-- the reader's lines, the append's of 39, and a group's
+abbrev pub openPlace : ℕ → ℕ
+openPlace n = cond (between 45 46 n) (n + 14) (cond (between 2 5 n) (n + 1) (cond (eqb n 39) 58 1))
+
 -- of a call's number: by the kind, which is its F, and the sort, which is its X
 abbrev pub linePlace : ℕ → ℕ → ℕ → ℕ → ℕ
 linePlace call n kind sort =
@@ -119,4 +127,5 @@ linePlace call n kind sort =
     (cond (eqb call 1) (cond (between 1 5 n) (n + 1) 1)
     (cond (eqb call 2) (buildPlace n sort)
     (cond (eqb call 3) (actionPlace n kind)
-    (cond (eqb call 4) (appendPlace n) (cond (eqb call 5) (writePlace n) 1)))))
+    (cond (eqb call 4) (appendPlace n)
+    (cond (eqb call 5) (writePlace n) (cond (eqb call 6) (openPlace n) 1))))))

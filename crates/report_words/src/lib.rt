@@ -26,10 +26,10 @@ ghost use Rattle.report_words.specs.Refused.{refusedBy, wordsIn, Refuses
 ghost use Rattle.report_words.specs.Longest.{longestExplanation};
 ghost use Rattle.report_words.specs.Lines.{numberFor, isNumber, letter, filled, pastLines, lines};
 ghost use Rattle.report_words.specs.Lines.{destroyedPlace, buildPlace, unbuiltPlace, actionPlace};
-ghost use Rattle.report_words.specs.Lines.{appendPlace, writePlace, linePlace};
+ghost use Rattle.report_words.specs.Lines.{appendPlace, writePlace, openPlace, linePlace};
 
-// The call that refuses, by its number (1 reads a sheet, 2 builds, 3 submits, 4 appends an instance, 5 writes a sheet), the refusal's number,
-// place and figures; an action is in E and its kind in F. Number 0 refuses nothing.
+// The call that refuses, by its number (1 reads a sheet, 2 builds, 3 submits, 4 appends an instance, 5 writes a sheet, 6 opens groups), the
+// refusal's number, place and figures; an action is in E and its kind in F, a group in E and its item in F. Number 0 refuses nothing.
 pub struct Refusal {
     pub call: u64,
     pub number: u64,
@@ -251,6 +251,8 @@ refused 6: id outside its table
 refused 34: custom data from 2^24 on
 refused 35: Tlas returns vertices, Blas does not
 refused 39: lent output too short
+refused 45: count 0, or a group that is not an earlier one, group E, item F
+refused 46: more than 512 slots, group E, item F
 ";
     put_line_of(out, at, lines, n, v)
 }
@@ -314,10 +316,18 @@ fn write_place(n: u64) -> usize
     shifted(n, 1, 5, 1, pick(n == 39, 58, 1))
 }
 
+fn open_place(n: u64) -> usize
+    ensures { λ r. ⌜ r ≡ openPlace n ⌝ }
+{
+    let other = shifted(n, 2, 5, 1, pick(n == 39, 58, 1));
+    shifted(n, 45, 46, 14, other)
+}
+
 fn line_place(call: u64, n: u64, kind: u64, sort: u64) -> usize
     ensures { λ r. ⌜ r ≡ linePlace call n kind sort ⌝ }
 {
-    let fifth = pick(call == 5, write_place(n), 1);
+    let sixth = pick(call == 6, open_place(n), 1);
+    let fifth = pick(call == 5, write_place(n), sixth);
     let fourth = pick(call == 4, append_place(n), fifth);
     let third = pick(call == 3, action_place(n, kind), fourth);
     let second = pick(call == 2, build_place(n, sort), third);

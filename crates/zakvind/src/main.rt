@@ -1,15 +1,31 @@
 // zakvind [VERB]: reads a sheet from standard input and prints its lines; with the verb `explain` also what they refuse, in words; with
-// `canonical` in their place its canonical bytes. For other arguments it prints nothing. Of an input that is longer than the buffer the first
-// 65,536 bytes are read: the first 56,416 decide what is printed (`report-prefix` of `report`, `explained-prefix` of `explain`) and whether a
-// sheet is read at all (`prefix-decides` of `ray_tracing`). None has more than 56,415, so that no part of a longer input is written as one.
+// `canonical` in their place its canonical bytes. Of an input that is longer than the buffer the first 65,536 bytes are read: the first 56,416
+// decide what is printed (`report-prefix` of `report`, `explained-prefix` of `explain`) and whether a sheet is read at all (`prefix-decides` of
+// `ray_tracing`). None has more than 56,415, so that no part of a longer input is written as one.
+//
+// With the verb `open` the input is groups of slots: the opened slots go to standard output, and to standard error a line with how many bytes
+// those are, or why there are none, in words. Of an input that is longer than 1,048,575 bytes nothing is printed.
+//
+// For other arguments it prints nothing.
+use libc::STDERR_FILENO;
 use libc::STDIN_FILENO;
 use libc::STDOUT_FILENO;
+use ray_tracing::OpenAnswer;
 use ray_tracing::Reported;
 use ray_tracing::SheetWritten;
+use report_words::Refusal;
+ghost use mathlib.Core.Path.{_≡_};
+ghost use lib.ListN.{length};
 
 fn print(text: &[u8], n: usize) {
     if n <= text.len() {
         io::write_all(STDOUT_FILENO, &text[0..n]);
+    }
+}
+
+fn say(text: &[u8], n: usize) {
+    if n <= text.len() {
+        io::write_all(STDERR_FILENO, &text[0..n]);
     }
 }
 
@@ -37,6 +53,60 @@ fn print_canonical(sheet: &[u8]) {
     }
 }
 
+// No words are more than 247 bytes.
+fn say_words(refusal: Refusal) {
+    let mut text = [0u8; 247];
+    if let Reported::Written(n) = report_words::words(refusal, &mut text) {
+        say(&text, n);
+    }
+}
+
+// Of 45 and 46 the group and the item, of the others the place.
+fn say_unopened(a: OpenAnswer) {
+    let mut e = a.place;
+    if 45 <= a.number {
+        e = a.group;
+    }
+    say_words(Refusal {
+        call: 6,
+        number: a.number,
+        e,
+        f: a.item,
+        x: 0,
+        y: 0,
+        z: 0,
+    });
+}
+
+// No groups open to more than 512 slots of 56 bytes.
+fn print_slots(groups: &[u8]) {
+    let mut out = [0u8; 28672];
+    let a = capi_answers::open_answer(groups::open_groups(groups, &mut out));
+    if a.number != 0 {
+        return say_unopened(a);
+    }
+    let n = a.written as usize;
+    print(&out, n);
+    io::write_all(STDERR_FILENO, b"opened ");
+    io::print_decimal(STDERR_FILENO, a.written);
+    io::write_all(STDERR_FILENO, b"\n");
+}
+
+fn groups_buffer() -> [u8; 1048576]
+    ensures { λ r. ⌜ 1048576 ≡ length r ⌝ }
+{
+    [0; 1048576]
+}
+
+// An input that fills the buffer may be longer.
+fn answer_groups() {
+    let mut groups = groups_buffer();
+    let n = io::read_full(STDIN_FILENO, &mut groups);
+    if n < groups.len() {
+        print_slots(&groups[..n]);
+    }
+}
+
 fn answer(verb: &[u8], sheet: &[u8]) {
     if check::same(verb, b"explain") {
         print_explained(sheet);
@@ -45,20 +115,35 @@ fn answer(verb: &[u8], sheet: &[u8]) {
     }
 }
 
+fn answer_sheet(verb: &[u8]) {
+    let mut sheet = io::large_buffer();
+    let n = io::read_full(STDIN_FILENO, &mut sheet);
+    answer(verb, &sheet[..n]);
+}
+
 // A verb that is longer than any has no bytes here, and is none.
-fn answer_argument(sheet: &[u8]) {
-    let mut verb = [0u8; 16];
-    let n = os::arg(1, &mut verb);
-    answer(&verb[..n], sheet);
+fn answer_argument() {
+    let mut space = [0u8; 16];
+    let n = os::arg(1, &mut space);
+    let verb = &space[..n];
+    if check::same(verb, b"open") {
+        answer_groups();
+    } else {
+        answer_sheet(verb);
+    }
+}
+
+fn answer_plain() {
+    let mut sheet = io::large_buffer();
+    let n = io::read_full(STDIN_FILENO, &mut sheet);
+    print_lines(&sheet[..n]);
 }
 
 fn main() {
-    let mut sheet = io::large_buffer();
-    let n = io::read_full(STDIN_FILENO, &mut sheet);
     let words = os::arg_count();
     if words < 2 {
-        print_lines(&sheet[..n]);
+        answer_plain();
     } else if words == 2 {
-        answer_argument(&sheet[..n]);
+        answer_argument();
     }
 }
