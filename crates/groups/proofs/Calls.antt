@@ -3,28 +3,10 @@ use Prim.Native.Nat.{ℕ, _-_, _*_, _≤_, _<_}
 use native.Mathlib.Omega.{arith}
 use mathlib.Core.Path.{_≡_, refl, sym, ap, _∙_, subst}
 use mathlib.Core.List.{List, map}
-use lib.ListN.{length, getD, take}
+use lib.ListN.{length, take}
 use lib.Seq.{sets, getD-take, length-take-le}
 use borrow.Author.Tests.{lt-ltb, le-ltb}
-use Rattle.ray_tracing.specs.Groups.{
-  Slot,
-  groupCount,
-  groupOf,
-  openGroup,
-  slotsOf,
-  slotRecords,
-  Judged,
-  fine,
-  refused,
-  judgeGroups,
-  judgeOpening,
-  Opening,
-  opened,
-  unopened,
-  openRule,
-  openingLeaves,
-  OpensGroups,
-}
+use Rattle.ray_tracing.specs.Groups.{Slot, groupCount, groupOf, openGroup, slotsOf, slotRecords, Finding, fine, refused, judgeGroups, judgeOpening, Opening, opened, unopened, openRule, openingLeaves, OpensGroups}
 use Rattle.ray_tracing.proofs.Groups.{judged-first}
 use Rattle.groups_judge.specs.Found.{Began}
 use Rattle.groups_judge.proofs.Laws.{fine-groups}
@@ -100,7 +82,7 @@ module _ (s : List ℕ) (count : ℕ) (e : count ≡ groupCount s) where
       ∙ placed-all (slotsOf s) out (omega (arith, z, all .1)) l
 
 -- the first places of the table are those of the groups
-pub table-so : (s starts : List ℕ) → judgeGroups s ≡ fine → 64 ≤ length starts → Began s starts → places.Judged s (take (groupCount s) starts)
+pub table-so : (s starts : List ℕ) → judgeGroups s ≡ fine → 64 ≤ length starts → Began s starts → places.JudgedFine s (take (groupCount s) starts)
 table-so s starts f l began =
     let w = fine-groups s f in
     let n = length-take-le (groupCount s) starts (omega (arith, w .most)) in

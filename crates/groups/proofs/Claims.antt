@@ -1,44 +1,26 @@
--- What is claimed of groups that are judged fine: each opens to a slot at least, so that few calls reach the 513th; and a list of one group
--- opens to the bytes that stand behind its two counts.
+-- What is claimed of groups that are judged fine: each opens to a slot at least, so that few calls reach the 513th; what is written is read
+-- as slots; and where there is one group, what is written is the bytes that stand behind the two counts.
 use Prim.Native.Nat.{ℕ, zero, suc, _+_, _-_, _≤_, _<_}
-use native.Mathlib.Nat.{not-suc-le-zero}
+use native.Mathlib.Nat.{add-zero, not-suc-le-zero}
 use native.Mathlib.Omega.{arith}
-use mathlib.Core.Path.{_≡_, refl, sym, ap, _∙_, subst}
+use mathlib.Core.Path.{_≡_, refl, sym, ap, _∙_}
 use mathlib.Core.Bool.{Bool, true, false, cond}
 use mathlib.Core.List.{List, [], _∷_, _++_, map, flatten, append-nil, append-assoc}
 use lib.Dec.{eqb}
-use lib.ListN.{length, take, drop, length-append, take-append-drop}
+use lib.ListN.{length, drop, length-append, length-map, take-append-drop}
 use lib.Seq.{drop-drop, drop-length}
 use borrow.Author.Tests.{eqb-true, eqb-false}
 use Rattle.wire.specs.Wire.{leAt}
-use Rattle.ray_tracing.specs.Groups.{
-  Item,
-  slot,
-  named,
-  Slot,
-  itemOf,
-  itemSize,
-  itemsOf,
-  pastItems,
-  groupCount,
-  groupAt,
-  groupOf,
-  openItem,
-  openItems,
-  openBelow,
-  openGroup,
-  slotsOf,
-  slotRecord,
-  slotRecords,
-  fine,
-  judgeItems,
-  judgeGroups,
-}
-use Rattle.groups_judge.proofs.Laws.{size-slot, item-inside, item-earlier, items-first, items-next, FineGroup, FineGroups, fine-groups}
-use Rattle.groups.proofs.Slots.{Stands, record-is}
+use Rattle.wire.proofs.Laws.{le-append-left, le-append-right, le-drop, le-take}
+use Rattle.ray_tracing.specs.Layout.{Seen, layout}
+use Rattle.ray_tracing.specs.Reading as reading
+use Rattle.ray_tracing.specs.Groups.{GroupItem, slot, named, Slot, itemOf, itemSize, itemsOf, pastItems, groupCount, groupAt, groupOf, openItem, openItems, openBelow, openGroup, slotsOf, slotRecord, slotRecords, fine, judgeItems, judgeGroups}
+use Rattle.groups_judge.proofs.Laws.{size-slot, item-inside, item-earlier, items-first, items-next, FineGroup, fine-groups}
+use Rattle.groups_judge.proofs.Steps.{then-nothing, slot-there, slot-as-record}
+use Rattle.groups.proofs.Slots.{All, Stands, slots-stand, record-is, part-length}
 
 -- an item is a slot or names a group
-abbrev itemBy : List ℕ → ℕ → ℕ → ℕ → Bool → Item Slot
+abbrev itemBy : List ℕ → ℕ → ℕ → ℕ → Bool → GroupItem Slot
 itemBy s g i at b = cond b (slot (record { group = g; item = i; at = at })) (named (leAt 2 s (at + 1)))
 
 module _ (s : List ℕ) where
@@ -138,3 +120,63 @@ module _ (s : List ℕ) where
       ∙ sym (append-nil _)
       ∙ ap (λ (l : List ℕ). flatten (map (slotRecord s) (openGroup (groupOf s) 0)) ++ l) (sym (ap (λ (n : ℕ). drop n s) ends ∙ drop-length s))
       ∙ items
+
+-- ---- "Slots are written as section 8's records"
+
+-- 56 bytes that begin with a present byte 1
+pub record Record (r : List ℕ) : Type 0 where
+  pub present : leAt 1 r 0 ≡ 1
+  pub size : length r ≡ 56
+
+record-read :
+    (c : Seen) (u : List ℕ) (at : ℕ)
+    → at + 56 ≤ length u
+    → leAt 1 u at ≡ 1
+    → reading.judgeFields c u at (layout 8 .fields) ≡ reading.fine
+unfolding reading.judgeRecords
+record-read c u at h e =
+    sym (then-nothing (reading.judgeFields c u at (layout 8 .fields)))
+    ∙ slot-as-record u at (omega arith) e c
+    ∙ slot-there u at h
+
+records-read :
+    (c : Seen) (rs : List (List ℕ)) (front : List ℕ)
+    → All Record rs
+    → reading.judgeRecords c (layout 8 .fields) (front ++ flatten rs) (length front) (length rs) ≡ reading.fine
+unfolding reading.judgeRecords flatten
+records-read c [] front t = refl
+records-read c (r ∷ rs) front t =
+    let u = front ++ (r ++ flatten rs) in
+    let first : leAt 1 u (length front) ≡ 1 =
+    ap (leAt 1 u) (sym (add-zero (length front)))
+    ∙ le-append-right 1 front (r ++ flatten rs) 0
+    ∙ le-append-left 1 r (flatten rs) 0 (omega (arith, t .0 .size))
+    ∙ t .0 .present in
+    let whole : length front + 56 ≤ length u =
+    omega (arith, length-append front (r ++ flatten rs), length-append r (flatten rs), t .0 .size) in
+    let past : length (front ++ r) ≡ length front + 56 = omega (arith, length-append front r, t .0 .size) in
+    rw (record-read c u (length front) whole first)
+    (ap (λ (l : List ℕ). reading.judgeRecords c (layout 8 .fields) l (length front + 56) (length rs)) (sym (append-assoc front r (flatten rs)))
+    ∙ ap (λ (n : ℕ). reading.judgeRecords c (layout 8 .fields) ((front ++ r) ++ flatten rs) n (length rs)) (sym past)
+    ∙ records-read c rs (front ++ r) (t .1))
+
+stand-records : (s : List ℕ) (xs : List Slot) → All (λ (x : Slot). Stands s (x .at)) xs → All Record (map (slotRecord s) xs)
+stand-records s [] t = tt
+stand-records s (x ∷ xs) t =
+    let e = record-is s x (t .0) in (
+      record {
+        present = ap (λ (l : List ℕ). leAt 1 l 0) e ∙ le-take 1 56 (drop (x .at) s) 0 (omega arith) ∙ le-drop 1 (x .at) s 0 ∙ ap (leAt 1 s) (add-zero (x .at)) ∙ t .0 .byte;
+        size = ap length e ∙ part-length s 56 (x .at) (t .0 .whole);
+      },
+      stand-records s xs (t .1),
+    )
+
+pub read-as-slots :
+    (s : List ℕ)
+    → judgeGroups s ≡ fine
+    → (c : Seen)
+    → reading.judgeRecords c (layout 8 .fields) (slotRecords s) 0 (length (slotsOf s)) ≡ reading.fine
+unfolding slotRecords
+read-as-slots s f c =
+    ap (reading.judgeRecords c (layout 8 .fields) (flatten (map (slotRecord s) (slotsOf s))) 0) (sym (length-map (slotsOf s) (slotRecord s)))
+    ∙ records-read c (map (slotRecord s) (slotsOf s)) [] (stand-records s (slotsOf s) (slots-stand s f))

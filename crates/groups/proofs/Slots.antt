@@ -3,39 +3,17 @@ use Prim.Native.Nat.{ℕ, zero, suc, _+_, _-_, _*_, _≤_, _<_}
 use native.Mathlib.Nat.{suc-mul}
 use native.Mathlib.Numerals.{add-one}
 use native.Mathlib.Omega.{arith}
-use mathlib.Core.Path.{_≡_, refl, sym, ap, _∙_, subst}
+use mathlib.Core.Path.{_≡_, refl, sym, ap, _∙_}
 use mathlib.Core.Bool.{Bool, true, false, cond}
 use mathlib.Core.List.{List, [], _∷_, _++_, map, flatten}
 use lib.Dec.{eqb}
 use lib.ListN.{length, getD, take, drop, length-append, length-drop, drop-of-length-le}
 use lib.Seq.{sets, drop-cons, length-take-le}
-use borrow.Author.Tests.{eqb-true, eqb-false}
+use borrow.Author.Tests.{eqb-true}
 use Rattle.wire.specs.Wire.{leAt}
 use Rattle.wire.proofs.Laws.{sets-append}
-use Rattle.ray_tracing.specs.Groups.{
-  Item,
-  slot,
-  named,
-  Slot,
-  itemOf,
-  itemSize,
-  itemsOf,
-  groupCount,
-  groupAt,
-  groupOf,
-  openItem,
-  openItems,
-  openBelow,
-  openGroup,
-  slotsOf,
-  slotRecord,
-  slotRecords,
-  fine,
-  judgeItem,
-  judgeItems,
-  judgeGroups,
-}
-use Rattle.groups_judge.proofs.Laws.{size-slot, item-inside, items-first, items-next, FineGroup, FineGroups, fine-groups}
+use Rattle.ray_tracing.specs.Groups.{GroupItem, slot, named, Slot, itemOf, itemSize, itemsOf, groupCount, groupAt, groupOf, openItem, openItems, openBelow, openGroup, slotsOf, slotRecord, fine, judgeItems, judgeGroups}
+use Rattle.groups_judge.proofs.Laws.{size-slot, item-inside, items-first, items-next, fine-groups}
 use Rattle.groups.specs.Items.{itemsAt, Within}
 
 -- ---- what holds of every slot that is written holds of every slot that is opened
@@ -45,7 +23,7 @@ All P [] = Unit
 All P (x ∷ xs) = P x × All P xs
 
 -- of items, those that are slots
-abbrev pub Each : {A : Type 0} → (A → Type 0) → List (Item A) → Type 0
+abbrev pub Each : {A : Type 0} → (A → Type 0) → List (GroupItem A) → Type 0
 Each P [] = Unit
 Each P (slot x ∷ xs) = P x × Each P xs
 Each P (named h ∷ xs) = Each P xs
@@ -55,13 +33,13 @@ module _ {A : Type 0} (P : A → Type 0) where
   all-append [] ys a b = b
   all-append (x ∷ xs) ys a b = (a .0, all-append xs ys (a .1) b)
 
-  items-all : (lower : ℕ → List A) → ((h : ℕ) → All P (lower h)) → (xs : List (Item A)) → Each P xs → All P (openItems lower xs)
+  items-all : (lower : ℕ → List A) → ((h : ℕ) → All P (lower h)) → (xs : List (GroupItem A)) → Each P xs → All P (openItems lower xs)
   unfolding openItems openItem
   items-all lower l [] e = tt
   items-all lower l (slot x ∷ xs) e = (e .0, items-all lower l xs (e .1))
   items-all lower l (named h ∷ xs) e = all-append (lower h) (openItems lower xs) (l h) (items-all lower l xs e)
 
-  module _ (c : ℕ → List (Item A)) where
+  module _ (c : ℕ → List (GroupItem A)) where
     below-all : (n : ℕ) → ((g : ℕ) → g < n → Each P (c g)) → (h : ℕ) → All P (openBelow c n h)
     unfolding openBelow
     below-all zero e h = tt

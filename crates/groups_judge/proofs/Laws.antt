@@ -11,27 +11,7 @@ use borrow.Author.Tests.{eq-eqb, ne-eqb, eqb-true, eqb-false, ltb-true, ltb-fals
 use Rattle.wire.specs.Wire.{leAt}
 use Rattle.ray_tracing.specs.Reading as reading
 use Rattle.ray_tracing.proofs.Reading.{fields-whole}
-use Rattle.ray_tracing.specs.Groups.{
-  Judged,
-  fine,
-  refused,
-  judgedWhen,
-  _andNext_,
-  atByte,
-  byByte,
-  slotFields,
-  isSlot,
-  itemSize,
-  pastItems,
-  groupCount,
-  groupAt,
-  judgeName,
-  judgeItem,
-  judgeItems,
-  judgeGroup,
-  judgeFrom,
-  judgeGroups,
-}
+use Rattle.ray_tracing.specs.Groups.{Finding, fine, refused, foundWhen, _andThen_, atByte, byByte, slotFields, isSlot, itemSize, pastItems, groupCount, groupAt, judgeName, judgeItem, judgeItems, judgeGroup, judgeFrom, judgeGroups}
 
 -- ---- the first of two
 
@@ -40,15 +20,15 @@ refused-not-fine e =
     let z : _≡_ {A = ℕ} 0 1 = cc in
     omega arith
 
-pub first-fine : (a b : Judged) → (a andNext b) ≡ fine → a ≡ fine
+pub first-fine : (a b : Finding) → (a andThen b) ≡ fine → a ≡ fine
 first-fine fine b e = refl
 first-fine (refused n p g i) b e = absurd (refused-not-fine e)
 
-pub next-fine : (a b : Judged) → (a andNext b) ≡ fine → b ≡ fine
+pub next-fine : (a b : Finding) → (a andThen b) ≡ fine → b ≡ fine
 next-fine fine b e = e
 next-fine (refused n p g i) b e = absurd (refused-not-fine e)
 
-when-fine : (t : Bool) (n p g i : ℕ) → judgedWhen t (refused n p g i) ≡ fine → t ≡ false
+when-fine : (t : Bool) (n p g i : ℕ) → foundWhen t (refused n p g i) ≡ fine → t ≡ false
 when-fine false n p g i e = refl
 when-fine true n p g i e = absurd (refused-not-fine e)
 
@@ -73,23 +53,23 @@ module _ (s : List ℕ) (g i at : ℕ) (f : judgeName s g i at ≡ fine) where
   name-whole = ltb-false (length s) (at + 2) (when-fine _ 2 at 0 0 (first-fine _ _ f))
 
   name-earlier : leAt 2 s at < g
-  name-earlier = ltb-true (leAt 2 s at) g (not-false _ (when-fine _ 45 0 g i (next-fine (judgedWhen (ltb (length s) (at + 2)) _) _ f)))
+  name-earlier = ltb-true (leAt 2 s at) g (not-false _ (when-fine _ 45 0 g i (next-fine (foundWhen (ltb (length s) (at + 2)) _) _ f)))
 
 -- an item's slot, and what else it may be
 abbrev pub slotJudged : List ℕ → ℕ → reading.Judged
 slotJudged s at = reading.judgeFields (reading.begin 0 [] false) s (at + 1) slotFields
 
-abbrev namedJudged : List ℕ → ℕ → ℕ → ℕ → Judged
+abbrev namedJudged : List ℕ → ℕ → ℕ → ℕ → Finding
 namedJudged s g i at = cond (eqb (leAt 1 s at) 2) (judgeName s g i (at + 1)) (refused 5 at 0 0)
 
 module _ (s : List ℕ) (g i at : ℕ) (f : judgeItem s g i at ≡ fine) where
-  item-begins : at + 1 ≤ length s
+  pub item-begins : at + 1 ≤ length s
   unfolding judgeItem
   item-begins = ltb-false (length s) (at + 1) (when-fine _ 2 at 0 0 (first-fine _ _ f))
 
   by-kind : cond (isSlot s at) (byByte (slotJudged s at)) (namedJudged s g i at) ≡ fine
   unfolding judgeItem
-  by-kind = next-fine (judgedWhen (ltb (length s) (at + 1)) _) _ f
+  by-kind = next-fine (foundWhen (ltb (length s) (at + 1)) _) _ f
 
   slot-fine : leAt 1 s at ≡ 1 → slotJudged s at ≡ reading.fine
   slot-fine e = by-byte-fine (slotJudged s at) (rw (eq-eqb (leAt 1 s at) 1 e) at by-kind)
@@ -144,12 +124,12 @@ pub record FineGroup (s : List ℕ) (g at : ℕ) : Type 0 where
 pub fine-group : (s : List ℕ) (g at : ℕ) → judgeGroup s g at ≡ fine → FineGroup s g at
 unfolding judgeGroup
 fine-group s g at f =
-    let w = next-fine (judgedWhen (ltb (length s) (at + 2)) _) _ f in
+    let w = next-fine (foundWhen (ltb (length s) (at + 2)) _) _ f in
     let none = eqb-false (leAt 2 s at) 0 (when-fine _ 45 0 g 0 (first-fine _ _ w)) in
     record {
       whole = ltb-false (length s) (at + 2) (when-fine _ 2 at 0 0 (first-fine _ _ f));
       some = omega (arith, none);
-      items = next-fine (judgedWhen (eqb (leAt 2 s at) 0) _) _ w;
+      items = next-fine (foundWhen (eqb (leAt 2 s at) 0) _) _ w;
     }
 
 -- each of n groups from group g on
@@ -183,20 +163,20 @@ pub record FineGroups (s : List ℕ) : Type 0 where
   pub ends : groupAt s (groupCount s) ≡ length s
 
 -- what is judged behind the last group
-abbrev pub behind : List ℕ → Judged
-behind s = judgedWhen (ltb (groupAt s (groupCount s)) (length s)) (atByte 3 (groupAt s (groupCount s)))
+abbrev pub behind : List ℕ → Finding
+behind s = foundWhen (ltb (groupAt s (groupCount s)) (length s)) (atByte 3 (groupAt s (groupCount s)))
 
 module _ (s : List ℕ) (f : judgeGroups s ≡ fine) where
   all-fine :
-      (judgedWhen (ltb (length s) 2) (refused 2 0 0 0) ≡ fine)
-      × ((judgedWhen (ltb 64 (groupCount s)) (refused 4 0 0 0) ≡ fine)
-      × ((judgedWhen (eqb (groupCount s) 0) (refused 45 0 0 0) ≡ fine)
+      (foundWhen (ltb (length s) 2) (refused 2 0 0 0) ≡ fine)
+      × ((foundWhen (ltb 64 (groupCount s)) (refused 4 0 0 0) ≡ fine)
+      × ((foundWhen (eqb (groupCount s) 0) (refused 45 0 0 0) ≡ fine)
       × ((judgeFrom s 0 (groupCount s) ≡ fine) × (behind s ≡ fine))))
   unfolding judgeGroups
   all-fine =
-      let a = next-fine (judgedWhen (ltb (length s) 2) _) _ f in
-      let b = next-fine (judgedWhen (ltb 64 (groupCount s)) _) _ a in
-      let d = next-fine (judgedWhen (eqb (groupCount s) 0) _) _ b in
+      let a = next-fine (foundWhen (ltb (length s) 2) _) _ f in
+      let b = next-fine (foundWhen (ltb 64 (groupCount s)) _) _ a in
+      let d = next-fine (foundWhen (eqb (groupCount s) 0) _) _ b in
       (first-fine _ _ f, (first-fine _ _ a, (first-fine _ _ b, (first-fine _ _ d, next-fine (judgeFrom s 0 (groupCount s)) _ d))))
 
   pub fine-groups : FineGroups s

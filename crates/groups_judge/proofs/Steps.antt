@@ -20,27 +20,8 @@ use Rattle.ray_tracing.specs.Reading as reading
 use Rattle.ray_tracing.proofs.GroupsJudged as T
 use Rattle.ray_tracing.specs.declared.GroupsJudged.{GroupsJudged}
 use Rattle.ray_tracing.specs.declared.GroupsJudged.the-variants as groups-judged
-use Rattle.groups_judge.specs.Found.{judgedOf, endOf, Began}
-use Rattle.ray_tracing.specs.Groups.{
-  Judged,
-  fine,
-  refused,
-  judgedWhen,
-  _andNext_,
-  atByte,
-  atItem,
-  byByte,
-  itemSize,
-  pastItems,
-  groupCount,
-  groupAt,
-  judgeName,
-  judgeItem,
-  judgeItems,
-  judgeGroup,
-  judgeFrom,
-  judgeGroups,
-}
+use Rattle.groups_judge.specs.Found.{findingOf, endedAt, Began}
+use Rattle.ray_tracing.specs.Groups.{Finding, fine, refused, foundWhen, _andThen_, atByte, atItem, byByte, itemSize, pastItems, groupCount, groupAt, judgeName, judgeItem, judgeItems, judgeGroup, judgeFrom, judgeGroups}
 use Rattle.groups_judge.proofs.Laws.{refused-not-fine, size-slot, size-named, slotJudged, item-inside, fine-group, group-inside, behind}
 
 -- a name
@@ -63,7 +44,7 @@ unfolding reading.judgeFields
 any-fine [] c s p h = refl
 any-fine (w ∷ ws) c s p h = rw (le-ltb (length s) (p + w) (omega arith)) (any-fine ws c s (p + w) (omega arith))
 
-then-nothing : (j : reading.Judged) → reading._andNext_ j reading.fine ≡ j
+pub then-nothing : (j : reading.Judged) → reading._andNext_ j reading.fine ≡ j
 then-nothing reading.fine = refl
 then-nothing (reading.refused n p) = refl
 
@@ -76,7 +57,7 @@ module _ (s : List ℕ) (at : ℕ) where
 
   -- an item whose byte is 1 is judged as a record of section 8: what the code's judge says of it
   module _ (h : at + 1 ≤ length s) (e : leAt 1 s at ≡ 1) where
-    slot-as-record : (c : Seen) → reading.judgeRecords c (layout 8 .fields) s at 1 ≡ slotJudged s at
+    pub slot-as-record : (c : Seen) → reading.judgeRecords c (layout 8 .fields) s at 1 ≡ slotJudged s at
     unfolding reading.judgeFields reading.judgeRecords
     slot-as-record c = rw (le-ltb (length s) (at + 1) h, e) (then-nothing (slotJudged s at))
 
@@ -88,8 +69,8 @@ module _ (s : List ℕ) (at : ℕ) where
     slot-judged c f told = ap byByte (sym (ap recordJudged told) ∙ f ∙ slot-as-record c)
 
 -- what the code found, and where it ends if that is fine
-abbrev pub Finds : GroupsJudged → Judged → ℕ → Type 0
-Finds r j e = (judgedOf r ≡ j) × (endOf r e ≡ e)
+abbrev pub Finds : GroupsJudged → Finding → ℕ → Type 0
+Finds r j e = (findingOf r ≡ j) × (endedAt r e ≡ e)
 
 -- an item
 module _ (s : List ℕ) (g i at : ℕ) where
@@ -116,14 +97,14 @@ module _ (s : List ℕ) (g i at : ℕ) where
 abbrev pub Refusal : GroupsJudged → Type 0
 Refusal r = OneOf (1 ∷ 2 ∷ []) (tagOf T.the-type r)
 
-stops : (r : GroupsJudged) (j next : Judged) (e : ℕ) → Refusal r → judgedOf r ≡ j → Finds r (j andNext next) e
+stops : (r : GroupsJudged) (j next : Finding) (e : ℕ) → Refusal r → findingOf r ≡ j → Finds r (j andThen next) e
 stops (groups-judged.EndsAt p) j next e k f = absurd (miss (1 ∷ 2 ∷ []) 0 tt k)
 stops (groups-judged.Refused n p) j next e k f = (rw (← f), refl)
 stops (groups-judged.InvalidGroup g i) j next e k f = (rw (← f), refl)
 
 -- what is fine ends where it is to
-goes : (r : GroupsJudged) {j : Judged} (e : ℕ) {p : ℕ} → Finds r j e → r ≡ groups-judged.EndsAt p → (j ≡ fine) × (p ≡ e)
-goes r e f told = (sym (f .0) ∙ ap judgedOf told, ap (λ q. endOf q e) (sym told) ∙ f .1)
+goes : (r : GroupsJudged) {j : Finding} (e : ℕ) {p : ℕ} → Finds r j e → r ≡ groups-judged.EndsAt p → (j ≡ fine) × (p ≡ e)
+goes r e f told = (sym (f .0) ∙ ap findingOf told, ap (λ q. endedAt q e) (sym told) ∙ f .1)
 
 one-left : (count i : ℕ) → i < count → count - i ≡ suc (count - (i + 1))
 one-left count i h = omega arith
@@ -193,19 +174,19 @@ module _ (s : List ℕ) where
 
   -- an answer, and the table that is left with it: where something is refused nothing is said of that
   abbrev pub Answers : GroupsJudged → List ℕ → Type 0
-  Answers r starts = (judgedOf r ≡ judgeGroups s) × Began s starts
+  Answers r starts = (findingOf r ≡ judgeGroups s) × Began s starts
 
   pub refuses : {n p g i : ℕ} (starts : List ℕ) → judgeGroups s ≡ refused n p g i → (refused n p g i ≡ judgeGroups s) × Began s starts
   refuses starts e = (sym e, λ f. absurd (refused-not-fine (sym e ∙ f)))
 
-  refuses-by : (r : GroupsJudged) (starts : List ℕ) → Refusal r → judgedOf r ≡ judgeGroups s → Answers r starts
+  refuses-by : (r : GroupsJudged) (starts : List ℕ) → Refusal r → findingOf r ≡ judgeGroups s → Answers r starts
   refuses-by (groups-judged.EndsAt p) starts k e = absurd (miss (1 ∷ 2 ∷ []) 0 tt k)
   refuses-by (groups-judged.Refused n p) starts k e = refuses starts (sym e)
   refuses-by (groups-judged.InvalidGroup g i) starts k e = refuses starts (sym e)
 
   -- group by group: what is left to judge is judged as the whole, the next group begins at `at`, and those passed are in the table
   pub record Ahead (starts : List ℕ) (g at : ℕ) : Type 0 where
-    pub judged : judgeGroups s ≡ (judgeFrom s g (groupCount s - g) andNext behind s)
+    pub judged : judgeGroups s ≡ (judgeFrom s g (groupCount s - g) andThen behind s)
     pub place : at ≡ groupAt s g
     pub table : (k : ℕ) → k < g → getD starts k 0 ≡ groupAt s k
 
@@ -222,7 +203,7 @@ module _ (s : List ℕ) where
   module _ (starts : List ℕ) (g at : ℕ) (a : Ahead starts g at) where
     -- no group is left
     module _ (e : g ≡ groupCount s) where
-      only-behind : judgeGroups s ≡ judgedWhen (ltb at (length s)) (atByte 3 at)
+      only-behind : judgeGroups s ≡ foundWhen (ltb at (length s)) (atByte 3 at)
       unfolding judgeFrom
       only-behind =
           let z : groupCount s - g ≡ 0 = omega (arith, e) in

@@ -16,13 +16,13 @@ ghost use Rattle.wire.specs.Wire.{leAt};
 ghost use Rattle.ray_tracing.specs.Layout.{size};
 ghost use Rattle.ray_tracing.specs.Reading.{begin, judgeFields};
 ghost use Rattle.ray_tracing.specs.Groups.{slotFields, itemSize, pastItems, byByte, judgeName, judgeItem, judgeGroup, judgeGroups};
-ghost use Rattle.groups_judge.specs.Found.{judgedOf, endOf, Began};
+ghost use Rattle.groups_judge.specs.Found.{findingOf, endedAt, Began};
 
 // The group's number that an item at `at - 1` has.
 fn judge_name(groups: &[u8], group: usize, item: usize, at: usize) -> GroupsJudged
     requires { ⌜ at ≤ length (now groups) ⌝ }
-    ensures judged { λ r. ⌜ judgedOf r ≡ judgeName (now (groups .entry)) group item at ⌝ }
-    ensures ends { λ r. ⌜ endOf r (at + 2) ≡ at + 2 ⌝ }
+    ensures judged { λ r. ⌜ findingOf r ≡ judgeName (now (groups .entry)) group item at ⌝ }
+    ensures ends { λ r. ⌜ endedAt r (at + 2) ≡ at + 2 ⌝ }
 {
     if groups.len() - at < 2 {
         return GroupsJudged::Refused(SheetError::Truncated, at);
@@ -37,9 +37,9 @@ fn judge_name(groups: &[u8], group: usize, item: usize, at: usize) -> GroupsJudg
 fn judge_slot(groups: &[u8], at: usize) -> GroupsJudged
     requires { ⌜ (at + 1 ≤ length (now groups)) × (leAt 1 (now groups) at ≡ 1) ⌝ }
     ensures judged { λ r. ⌜
-        judgedOf r ≡ byByte (judgeFields (begin 0 [] false) (now (groups .entry)) (at + 1) slotFields)
+        findingOf r ≡ byByte (judgeFields (begin 0 [] false) (now (groups .entry)) (at + 1) slotFields)
         ⌝ }
-    ensures ends { λ r. ⌜ endOf r (at + size 8) ≡ at + size 8 ⌝ }
+    ensures ends { λ r. ⌜ endedAt r (at + size 8) ≡ at + size 8 ⌝ }
 {
     if SLOT_SIZE <= groups.len() - at {
         return GroupsJudged::EndsAt(at + SLOT_SIZE);
@@ -53,8 +53,8 @@ fn judge_slot(groups: &[u8], at: usize) -> GroupsJudged
 
 fn judge_item(groups: &[u8], group: usize, item: usize, at: usize) -> GroupsJudged
     requires { ⌜ at ≤ length (now groups) ⌝ }
-    ensures judged { λ r. ⌜ judgedOf r ≡ judgeItem (now (groups .entry)) group item at ⌝ }
-    ensures ends { λ r. ⌜ endOf r (at + itemSize (now (groups .entry)) at) ≡ at + itemSize (now (groups .entry)) at ⌝ }
+    ensures judged { λ r. ⌜ findingOf r ≡ judgeItem (now (groups .entry)) group item at ⌝ }
+    ensures ends { λ r. ⌜ endedAt r (at + itemSize (now (groups .entry)) at) ≡ at + itemSize (now (groups .entry)) at ⌝ }
 {
     if groups.len() <= at {
         return GroupsJudged::Refused(SheetError::Truncated, at);
@@ -69,9 +69,9 @@ fn judge_item(groups: &[u8], group: usize, item: usize, at: usize) -> GroupsJudg
 // The group that begins at a place.
 fn judge_group(groups: &[u8], group: usize, start: usize) -> GroupsJudged
     requires { ⌜ start ≤ length (now groups) ⌝ }
-    ensures judged { λ r. ⌜ judgedOf r ≡ judgeGroup (now (groups .entry)) group start ⌝ }
+    ensures judged { λ r. ⌜ findingOf r ≡ judgeGroup (now (groups .entry)) group start ⌝ }
     ensures ends { λ r. ⌜
-        endOf r (pastItems (now (groups .entry)) (leAt 2 (now (groups .entry)) start) (start + 2)) ≡
+        endedAt r (pastItems (now (groups .entry)) (leAt 2 (now (groups .entry)) start) (start + 2)) ≡
         pastItems (now (groups .entry)) (leAt 2 (now (groups .entry)) start) (start + 2)
         ⌝ }
 {
@@ -98,7 +98,7 @@ fn judge_group(groups: &[u8], group: usize, start: usize) -> GroupsJudged
 // All groups, and where each begins: of those that were judged, `starts` has the place.
 pub fn judge_groups(groups: &[u8], starts: &mut [usize]) -> GroupsJudged
     requires { ⌜ 64 ≤ length (now starts) ⌝ }
-    ensures judged { λ r. ⌜ judgedOf r ≡ judgeGroups (now (groups .entry)) ⌝ }
+    ensures judged { λ r. ⌜ findingOf r ≡ judgeGroups (now (groups .entry)) ⌝ }
     ensures starts { λ _. ⌜ Began (now (groups .entry)) (now (starts .exit)) ⌝ }
 {
     if groups.len() < 2 {

@@ -12,11 +12,11 @@ use Rattle.wire.specs.Wire.{leAt}
 use Rattle.wire.proofs.Laws.{sets-append}
 use Rattle.ray_tracing.specs.Groups as groups
 use Rattle.ray_tracing.specs.Groups.{Slot, itemOf, itemSize, itemsOf, groupAt, groupOf, openItem, openItems, openBelow, openGroup, fine, atItem, atFirst, judgeItem, judgeItems, judgeMost}
-use Rattle.groups_judge.proofs.Laws.{item-inside, items-first, items-next, FineGroup, fine-groups}
+use Rattle.groups_judge.proofs.Laws.{items-first, items-next, FineGroup, fine-groups}
 use Rattle.groups_open.proofs.Opening.{item-slot, item-named, items-more, items-none, group-items}
 use Rattle.groups_open.specs.declared.Opened.{Opened}
 use Rattle.groups_open.specs.declared.Opened.the-variants.{Slots, Full}
-use Rattle.groups_open.specs.Places.{counted, placed, Judged}
+use Rattle.groups_open.specs.Places.{counted, placed, JudgedFine}
 
 -- Counted
 
@@ -76,7 +76,7 @@ counted-all n k (x ∷ xs) h e =
     (λ o. absurd (full-not-slots (sym (counted-last n x xs o) ∙ e)))
 
 -- the one that is too many is what `judgeMost` finds
-abbrev overOf : Opened → groups.Judged
+abbrev overOf : Opened → groups.Finding
 overOf (Slots k) = fine
 overOf (Full g i) = atItem 46 g i
 
@@ -178,10 +178,6 @@ module _ (s : List ℕ) (g i at n : ℕ) (out : List ℕ) where
 
 -- The groups that are judged fine
 
-pub byte-inside : (s : List ℕ) (g i at : ℕ) → judgeItem s g i at ≡ fine → at + 1 ≤ length s
-unfolding itemSize
-byte-inside s g i at e = let whole = item-inside s g i at e in omega (arith, whole)
-
 -- the items of group g from item i on, where n are in it
 module _ (s : List ℕ) (g n : ℕ) where
   abbrev pub left : ℕ → ℕ → List Slot
@@ -208,7 +204,7 @@ module _ (s : List ℕ) (g n : ℕ) where
           subst (λ (k : ℕ). LeftFine (at + k) (i + 1)) (sym e)
           (items-next s g (n - (i + 1)) i at (subst (λ (k : ℕ). judgeItems s g k i at ≡ fine) one-left f))
 
-pub group-fine : (s starts : List ℕ) (g : ℕ) → Judged s starts → g < length starts → FineGroup s g (getD starts g 0)
+pub group-fine : (s starts : List ℕ) (g : ℕ) → JudgedFine s starts → g < length starts → FineGroup s g (getD starts g 0)
 group-fine s starts g j h = subst (FineGroup s g) (sym (j .place g h)) (fine-groups s (j .fine) .groups g (omega (arith, j .most)))
 
 -- The loop over a group's items

@@ -5,7 +5,7 @@ use mathlib.Core.Path.{_≡_, refl, ap}
 use mathlib.Core.List.{List, [], _∷_, _++_}
 use borrow.Author.Tests.{eq-eqb, ne-eqb}
 use Rattle.wire.specs.Wire.{leAt}
-use Rattle.ray_tracing.specs.Groups.{Item, Slot, itemOf, itemSize, itemsOf, groupAt, groupOf, openItem, openItems, openBelow, openGroup}
+use Rattle.ray_tracing.specs.Groups.{GroupItem, Slot, itemOf, itemSize, itemsOf, groupAt, groupOf, openItem, openItems, openBelow, openGroup}
 use Rattle.ray_tracing.proofs.Groups.{below-is}
 
 module _ (s : List ℕ) (g i at : ℕ) where
@@ -14,7 +14,7 @@ module _ (s : List ℕ) (g i at : ℕ) where
   unfolding itemOf openItem
   item-slot lower e = rw (eq-eqb (leAt 1 s at) 1 e)
 
-  pub item-named : (c : ℕ → List (Item Slot)) → ¬ (leAt 1 s at ≡ 1) → leAt 2 s (at + 1) < g
+  pub item-named : (c : ℕ → List (GroupItem Slot)) → ¬ (leAt 1 s at ≡ 1) → leAt 2 s (at + 1) < g
       → openItem (openBelow c g) (itemOf s g i at) ≡ openGroup c (leAt 2 s (at + 1))
   unfolding itemOf openItem
   item-named c f l = rw (ne-eqb (leAt 1 s at) 1 f) (below-is c g (leAt 2 s (at + 1)) l)

@@ -1,4 +1,4 @@
--- What opening counts and where it found the slots; and what judging shows it. Assumes nothing.
+-- Internal: what opening counts and where it found the slots; and what judging shows it. Assumes nothing.
 use Prim.Native.Nat.{ℕ, _+_, _-_, _≤_, _<_}
 use mathlib.Core.Path.{_≡_}
 use mathlib.Core.Bool.{cond}
@@ -20,7 +20,7 @@ unfoldable pub placed : ℕ → List Slot → List ℕ → List ℕ
 placed n xs out = sets out n (map (λ (x : Slot). x .at) (take (512 - n) xs))
 
 -- groups that are judged fine, and where the first of them begin
-pub record Judged (s starts : List ℕ) : Type 0 where
+pub record JudgedFine (s starts : List ℕ) : Type 0 where
   pub fine : judgeGroups s ≡ fine
   pub most : length starts ≤ groupCount s
   pub place : (g : ℕ) → g < length starts → getD starts g 0 ≡ groupAt s g

@@ -1,6 +1,6 @@
 // Opening a group and opening an item call on each other until only slots are left: the group's number falls at each nested group, and the
-// items left fall within one. Each group has an item, so each opens to a slot at least: the 513th slot, which ends it, is reached after at most
-// 513 times 64 calls, however many the groups name.
+// items left fall within one. Each group opens to a slot at least (`each-opens` of `groups`), and the 513th slot ends it: so at most 513 slots
+// are reached, each through at most 64 groups, however many slots the groups name.
 use ray_tracing::MOST_SLOTS;
 use ray_tracing::NAME_SIZE;
 use ray_tracing::SLOT_SIZE;
@@ -10,7 +10,7 @@ ghost use mathlib.Core.Path.{_≡_};
 ghost use Prim.Native.Nat.{_+_, _≤_, _<_};
 ghost use lib.ListN.{length};
 ghost use Rattle.ray_tracing.specs.Groups.{fine, itemOf, itemSize, groupOf, judgeItem, openItem, openBelow, openGroup};
-ghost use Rattle.groups_open.specs.Places.{counted, placed, Judged};
+ghost use Rattle.groups_open.specs.Places.{counted, placed, JudgedFine};
 
 // How many slots there are, or the group and the item of the first that is too many.
 pub enum Opened {
@@ -38,7 +38,7 @@ pub fn open_group(
     n: usize,
 ) -> Opened
     requires { ⌜
-        (Judged (now groups) (now starts) × (group < length (now starts))) × ((512 ≤ length (now places)) × (n ≤ 512))
+        (JudgedFine (now groups) (now starts) × (group < length (now starts))) × ((512 ≤ length (now places)) × (n ≤ 512))
         ⌝ }
     ensures answer { λ r. ⌜ r ≡ counted n (openGroup (groupOf (now (groups .entry))) group) ⌝ }
     ensures places { λ _. ⌜
@@ -73,7 +73,7 @@ fn open_item(
     n: usize,
 ) -> Opened
     requires { ⌜
-        (Judged (now groups) (now starts) × ((group < length (now starts)) × (judgeItem (now groups) group item at ≡ fine)))
+        (JudgedFine (now groups) (now starts) × ((group < length (now starts)) × (judgeItem (now groups) group item at ≡ fine)))
         × ((512 ≤ length (now places)) × (n ≤ 512))
         ⌝ }
     ensures answer { λ r. ⌜

@@ -12,56 +12,23 @@ use lib.Seq.{sets}
 use borrow.Author.Tests.{eqb-true, eqb-false}
 use Rattle.wire.specs.Wire.{leAt, leBytes}
 use Rattle.ray_tracing.specs.Reading.{judgeFields}
-use Rattle.ray_tracing.specs.Groups.{
-  Item,
-  slot,
-  named,
-  itemOf,
-  itemSize,
-  itemsOf,
-  pastItems,
-  groupCount,
-  groupAt,
-  groupOf,
-  openItem,
-  openItems,
-  openBelow,
-  openGroup,
-  slotsOf,
-  slotRecord,
-  slotRecords,
-  Judged,
-  fine,
-  refused,
-  judgeItem,
-  judgeItems,
-  judgeGroup,
-  judgeFrom,
-  judgeGroups,
-  judgeOpening,
-  opened,
-  unopened,
-  afterJudging,
-  openRule,
-  openingLeaves,
-  OpensGroups,
-}
+use Rattle.ray_tracing.specs.Groups.{GroupItem, slot, named, itemOf, itemSize, itemsOf, pastItems, groupCount, groupAt, groupOf, openItem, openItems, openBelow, openGroup, slotsOf, slotRecord, slotRecords, Finding, fine, refused, judgeItem, judgeItems, judgeGroup, judgeFrom, judgeGroups, judgeOpening, opened, unopened, afterJudging, openRule, openingLeaves, OpensGroups}
 
 module _ {A : Type 0} where
   pub items-append :
-      (lower : ℕ → List A) (xs ys : List (Item A)) → openItems lower (xs ++ ys) ≡ openItems lower xs ++ openItems lower ys
+      (lower : ℕ → List A) (xs ys : List (GroupItem A)) → openItems lower (xs ++ ys) ≡ openItems lower xs ++ openItems lower ys
   unfolding openItems
   items-append lower [] ys = refl
   items-append lower (x ∷ xs) ys =
       ap (λ (l : List A). openItem lower x ++ l) (items-append lower xs ys) ∙ sym (append-assoc (openItem lower x) (openItems lower xs) (openItems lower ys))
 
   -- each group that these items name is before group g
-  abbrev pub Earlier : ℕ → List (Item A) → Type 0
+  abbrev pub Earlier : ℕ → List (GroupItem A) → Type 0
   Earlier g [] = Unit
   Earlier g (slot x ∷ xs) = Earlier g xs
   Earlier g (named h ∷ xs) = (h < g) × Earlier g xs
 
-  module _ (c : ℕ → List (Item A)) where
+  module _ (c : ℕ → List (GroupItem A)) where
     -- how many groups there are below a number does not matter to those that are
     pub below-is : (g h : ℕ) → h < g → openBelow c g h ≡ openGroup c h
     unfolding openGroup openBelow
@@ -72,7 +39,7 @@ module _ {A : Type 0} where
         go true p rec = ap (λ (k : ℕ). openItems (openBelow c k) (c k)) (sym (eqb-true h g p))
         go false p rec = let d = eqb-false h g p in rec (omega arith)
 
-    items-earlier : (g : ℕ) (xs : List (Item A)) → Earlier g xs → openItems (openBelow c g) xs ≡ openItems (openGroup c) xs
+    items-earlier : (g : ℕ) (xs : List (GroupItem A)) → Earlier g xs → openItems (openBelow c g) xs ≡ openItems (openGroup c) xs
     unfolding openItems openItem
     items-earlier g [] e = refl
     items-earlier g (slot x ∷ xs) e = ap (λ (l : List A). x ∷ l) (items-earlier g xs e)
@@ -89,12 +56,12 @@ module _ {A : Type 0} where
   only-slots lower [] = refl
   only-slots lower (x ∷ xs) = ap (λ (l : List A). x ∷ l) (only-slots lower xs)
 
-  pub slots-only : (c : ℕ → List (Item A)) (g : ℕ) (xs : List A) → c g ≡ map slot xs → openGroup c g ≡ xs
+  pub slots-only : (c : ℕ → List (GroupItem A)) (g : ℕ) (xs : List A) → c g ≡ map slot xs → openGroup c g ≡ xs
   unfolding openGroup
   slots-only c g xs e = ap (openItems (openBelow c g)) e ∙ only-slots (openBelow c g) xs
 
   -- "replacing a named group by its items opened gives the same slots": in group g, of all groups
-  module _ (c d : ℕ → List (Item A)) (g h : ℕ) (xs ys : List (Item A)) (earlier : h < g)
+  module _ (c d : ℕ → List (GroupItem A)) (g h : ℕ) (xs ys : List (GroupItem A)) (earlier : h < g)
       (named-there : c g ≡ xs ++ (named h ∷ ys)) (typed-out : d g ≡ xs ++ (map slot (openGroup c h) ++ ys))
       (others : (k : ℕ) → (k ≡ g → ⊥) → d k ≡ c k) where
     here : (lower : ℕ → List A) → lower h ≡ openGroup c h → openItems lower (d g) ≡ openItems lower (c g)
@@ -136,17 +103,17 @@ module _ {A : Type 0} where
         ∙ group-kept (openBelow c k) k (λ e. below-is c k h (omega (arith, e)))
 
 -- an item with its slot seen otherwise
-abbrev pub itemWith : {A B : Type 0} → (A → B) → Item A → Item B
+abbrev pub itemWith : {A B : Type 0} → (A → B) → GroupItem A → GroupItem B
 itemWith f (slot x) = slot (f x)
 itemWith f (named h) = named h
 
 module _ {A B : Type 0} (f : A → B) where
-  item-map : (lower : ℕ → List A) (x : Item A) → openItem (λ (h : ℕ). map f (lower h)) (itemWith f x) ≡ map f (openItem lower x)
+  item-map : (lower : ℕ → List A) (x : GroupItem A) → openItem (λ (h : ℕ). map f (lower h)) (itemWith f x) ≡ map f (openItem lower x)
   unfolding openItem
   item-map lower (slot x) = refl
   item-map lower (named h) = refl
 
-  items-map : (lower : ℕ → List A) (xs : List (Item A)) → openItems (λ (h : ℕ). map f (lower h)) (map (itemWith f) xs) ≡ map f (openItems lower xs)
+  items-map : (lower : ℕ → List A) (xs : List (GroupItem A)) → openItems (λ (h : ℕ). map f (lower h)) (map (itemWith f) xs) ≡ map f (openItems lower xs)
   unfolding openItems
   items-map lower [] = refl
   items-map lower (x ∷ xs) =
@@ -157,7 +124,7 @@ module _ {A B : Type 0} (f : A → B) where
   pick-map true v w p q = p
   pick-map false v w p q = q
 
-  module _ (c : ℕ → List (Item A)) where
+  module _ (c : ℕ → List (GroupItem A)) where
     below-map : (n : ℕ) → openBelow (λ (g : ℕ). map (itemWith f) (c g)) n ≡ (λ (h : ℕ). map f (openBelow c n h))
     unfolding openBelow
     below-map zero = refl
@@ -174,7 +141,7 @@ module _ {A B : Type 0} (f : A → B) where
     group-map g = ap (λ (l : ℕ → List B). openItems l (map (itemWith f) (c g))) (below-map g) ∙ items-map (openBelow c g) (c g)
 
 -- the groups by their slots' records
-abbrev pub recordsIn : List ℕ → ℕ → List (Item (List ℕ))
+abbrev pub recordsIn : List ℕ → ℕ → List (GroupItem (List ℕ))
 recordsIn s g = map (itemWith (slotRecord s)) (groupOf s g)
 
 -- the bytes that are written follow from those: two lists of groups that hold the same, however they are written, open to the same
@@ -194,7 +161,7 @@ module _ (s out : List ℕ) (m : ℕ) (p : List ℕ) where
   opened-wrote call = go (judgeOpening s (length out)) (call .answer) (call .left)
     where
       go :
-          (j : Judged)
+          (j : Finding)
           → opened m ≡ afterJudging j (length (slotRecords s))
           → p ≡ openingLeaves (afterJudging j (length (slotRecords s))) (slotRecords s) out
           → (m ≡ length (slotRecords s)) × (p ≡ sets out 0 (slotRecords s))
@@ -203,7 +170,7 @@ module _ (s out : List ℕ) (m : ℕ) (p : List ℕ) where
 
 -- two calls on groups that are the same but for a named group that the second types out: both wrote the same
 pub opens-the-same :
-    (s t : List ℕ) (g h : ℕ) (xs ys : List (Item (List ℕ)))
+    (s t : List ℕ) (g h : ℕ) (xs ys : List (GroupItem (List ℕ)))
     → h < g
     → recordsIn s g ≡ xs ++ (named h ∷ ys)
     → recordsIn t g ≡ xs ++ (map slot (openGroup (recordsIn s) h) ++ ys)

@@ -13,13 +13,13 @@ use Rattle.ray_tracing.specs.Layout.{Field, layout, total}
 use Rattle.ray_tracing.specs.Reading as reading
 use Rattle.ray_tracing.specs.Causes.{sheetNumber}
 
-infixr 20 _andNext_
+infixr 20 _andThen_
 -- What is written
 
 -- "An item is a byte 1 and a slot's fields after its present byte, or a byte 2 and a u16 group number"
-pub data Item (A : Type 0) : Type 0 where
-  slot : A → Item A
-  named : ℕ → Item A
+pub data GroupItem (A : Type 0) : Type 0 where
+  slot : A → GroupItem A
+  named : ℕ → GroupItem A
 
 -- a slot as it is written: its group, its item there, and the byte at which its item begins
 pub record Slot : Type 0 where
@@ -35,14 +35,14 @@ abbrev pub isSlot : List ℕ → ℕ → Bool
 isSlot s at = eqb (leAt 1 s at) 1
 
 -- item i of group g, which begins there; and its bytes
-unfoldable pub itemOf : List ℕ → ℕ → ℕ → ℕ → Item Slot
+unfoldable pub itemOf : List ℕ → ℕ → ℕ → ℕ → GroupItem Slot
 itemOf s g i at = cond (isSlot s at) (slot (record { group = g; item = i; at = at })) (named (leAt 2 s (at + 1)))
 
 unfoldable pub itemSize : List ℕ → ℕ → ℕ
 itemSize s at = 1 + cond (isSlot s at) (total slotFields) 2
 
 -- n items of group g end to end, from item i on; and where they end
-unfoldable pub itemsOf : List ℕ → ℕ → ℕ → ℕ → ℕ → List (Item Slot)
+unfoldable pub itemsOf : List ℕ → ℕ → ℕ → ℕ → ℕ → List (GroupItem Slot)
 itemsOf s g zero i at = []
 itemsOf s g (suc n) i at = itemOf s g i at ∷ itemsOf s g n (i + 1) (at + itemSize s at)
 
@@ -60,26 +60,26 @@ unfoldable pub groupAt : List ℕ → ℕ → ℕ
 groupAt s zero = 2
 groupAt s (suc g) = pastItems s (leAt 2 s (groupAt s g)) (groupAt s g + 2)
 
-unfoldable pub groupOf : List ℕ → ℕ → List (Item Slot)
+unfoldable pub groupOf : List ℕ → ℕ → List (GroupItem Slot)
 groupOf s g = itemsOf s g (leAt 2 s (groupAt s g)) 0 (groupAt s g + 2)
 
 -- Opening
 
 -- "Opening a group and opening an item call on each other until only slots are left, in written order": an item, where `lower` opens the
 -- groups; a group's items; and group h of those before group g, since no group names itself or a later one
-unfoldable pub openItem : {A : Type 0} → (ℕ → List A) → Item A → List A
+unfoldable pub openItem : {A : Type 0} → (ℕ → List A) → GroupItem A → List A
 openItem lower (slot x) = x ∷ []
 openItem lower (named h) = lower h
 
-unfoldable pub openItems : {A : Type 0} → (ℕ → List A) → List (Item A) → List A
+unfoldable pub openItems : {A : Type 0} → (ℕ → List A) → List (GroupItem A) → List A
 openItems lower [] = []
 openItems lower (x ∷ xs) = openItem lower x ++ openItems lower xs
 
-unfoldable pub openBelow : {A : Type 0} → (ℕ → List (Item A)) → ℕ → ℕ → List A
+unfoldable pub openBelow : {A : Type 0} → (ℕ → List (GroupItem A)) → ℕ → ℕ → List A
 openBelow groups zero h = []
 openBelow groups (suc g) h = cond (eqb h g) (openItems (openBelow groups g) (groups g)) (openBelow groups g h)
 
-unfoldable pub openGroup : {A : Type 0} → (ℕ → List (Item A)) → ℕ → List A
+unfoldable pub openGroup : {A : Type 0} → (ℕ → List (GroupItem A)) → ℕ → List A
 openGroup groups g = openItems (openBelow groups g) (groups g)
 
 -- "The last group is the house": its slots
@@ -96,74 +96,74 @@ slotRecords s = flatten (map (slotRecord s) (slotsOf s))
 -- Judging
 
 -- nothing to refuse; or a refusal's number, its byte, and its "group and item as written, 0 where there is none"
-pub data Judged : Type 0 where
-  fine : Judged
-  refused : ℕ → ℕ → ℕ → ℕ → Judged
+pub data Finding : Type 0 where
+  fine : Finding
+  refused : ℕ → ℕ → ℕ → ℕ → Finding
 
-abbrev pub atByte : ℕ → ℕ → Judged
+abbrev pub atByte : ℕ → ℕ → Finding
 atByte n place = refused n place 0 0
 
-abbrev pub atItem : ℕ → ℕ → ℕ → Judged
+abbrev pub atItem : ℕ → ℕ → ℕ → Finding
 atItem n g i = refused n 0 g i
 
-abbrev pub judgedWhen : Bool → Judged → Judged
-judgedWhen true j = j
-judgedWhen false j = fine
+abbrev pub foundWhen : Bool → Finding → Finding
+foundWhen true j = j
+foundWhen false j = fine
 
 -- the first of two
-abbrev pub _andNext_ : Judged → Judged → Judged
-_andNext_ fine j = j
-_andNext_ (refused n p g i) j = refused n p g i
+abbrev pub _andThen_ : Finding → Finding → Finding
+_andThen_ fine j = j
+_andThen_ (refused n p g i) j = refused n p g i
 
 -- what a sheet's judge finds, at its byte
-abbrev pub byByte : reading.Judged → Judged
+abbrev pub byByte : reading.Judged → Finding
 byByte reading.fine = fine
 byByte (reading.refused n p) = atByte n p
 
 -- the number of a group, in item i of group g: "45 for (...) a group that names itself or a later one"
-abbrev pub judgeName : List ℕ → ℕ → ℕ → ℕ → Judged
+abbrev pub judgeName : List ℕ → ℕ → ℕ → ℕ → Finding
 judgeName s g i at =
-    judgedWhen (ltb (length s) (at + 2)) (atByte 2 at) andNext judgedWhen (not (ltb (leAt 2 s at) g)) (atItem 45 g i)
+    foundWhen (ltb (length s) (at + 2)) (atByte 2 at) andThen foundWhen (not (ltb (leAt 2 s at) g)) (atItem 45 g i)
 
 -- "Card cut short, (...) another item byte: the sheet's 2, (...) and 5"; a slot's fields may have any values
-unfoldable pub judgeItem : List ℕ → ℕ → ℕ → ℕ → Judged
+unfoldable pub judgeItem : List ℕ → ℕ → ℕ → ℕ → Finding
 judgeItem s g i at =
-    judgedWhen (ltb (length s) (at + 1)) (atByte 2 at)
-    andNext cond (isSlot s at) (byByte (reading.judgeFields (reading.begin 0 [] false) s (at + 1) slotFields))
+    foundWhen (ltb (length s) (at + 1)) (atByte 2 at)
+    andThen cond (isSlot s at) (byByte (reading.judgeFields (reading.begin 0 [] false) s (at + 1) slotFields))
     (cond (eqb (leAt 1 s at) 2) (judgeName s g i (at + 1)) (atByte 5 at))
 
 -- n items of group g, from item i on
-unfoldable pub judgeItems : List ℕ → ℕ → ℕ → ℕ → ℕ → Judged
+unfoldable pub judgeItems : List ℕ → ℕ → ℕ → ℕ → ℕ → Finding
 judgeItems s g zero i at = fine
-judgeItems s g (suc n) i at = judgeItem s g i at andNext judgeItems s g n (i + 1) (at + itemSize s at)
+judgeItems s g (suc n) i at = judgeItem s g i at andThen judgeItems s g n (i + 1) (at + itemSize s at)
 
 -- group g, which begins at a byte: "45 for a (...) item count of 0"
-unfoldable pub judgeGroup : List ℕ → ℕ → ℕ → Judged
+unfoldable pub judgeGroup : List ℕ → ℕ → ℕ → Finding
 judgeGroup s g at =
-    judgedWhen (ltb (length s) (at + 2)) (atByte 2 at)
-    andNext judgedWhen (eqb (leAt 2 s at) 0) (atItem 45 g 0)
-    andNext judgeItems s g (leAt 2 s at) 0 (at + 2)
+    foundWhen (ltb (length s) (at + 2)) (atByte 2 at)
+    andThen foundWhen (eqb (leAt 2 s at) 0) (atItem 45 g 0)
+    andThen judgeItems s g (leAt 2 s at) 0 (at + 2)
 
 -- n groups, from group g on
-unfoldable pub judgeFrom : List ℕ → ℕ → ℕ → Judged
+unfoldable pub judgeFrom : List ℕ → ℕ → ℕ → Finding
 judgeFrom s g zero = fine
-judgeFrom s g (suc n) = judgeGroup s g (groupAt s g) andNext judgeFrom s (g + 1) n
+judgeFrom s g (suc n) = judgeGroup s g (groupAt s g) andThen judgeFrom s (g + 1) n
 
 -- "the whole card is judged first, from the start on, 45 included": "over 64 groups", "45 for a group (...) count of 0", "bytes left over"
-unfoldable pub judgeGroups : List ℕ → Judged
+unfoldable pub judgeGroups : List ℕ → Finding
 judgeGroups s =
-    judgedWhen (ltb (length s) 2) (atByte 2 0)
-    andNext judgedWhen (ltb 64 (groupCount s)) (atByte 4 0)
-    andNext judgedWhen (eqb (groupCount s) 0) (atItem 45 0 0)
-    andNext judgeFrom s 0 (groupCount s)
-    andNext judgedWhen (ltb (groupAt s (groupCount s)) (length s)) (atByte 3 (groupAt s (groupCount s)))
+    foundWhen (ltb (length s) 2) (atByte 2 0)
+    andThen foundWhen (ltb 64 (groupCount s)) (atByte 4 0)
+    andThen foundWhen (eqb (groupCount s) 0) (atItem 45 0 0)
+    andThen judgeFrom s 0 (groupCount s)
+    andThen foundWhen (ltb (groupAt s (groupCount s)) (length s)) (atByte 3 (groupAt s (groupCount s)))
 
 -- "46 for a 513th slot of the house": where it is written
-abbrev pub atFirst : ℕ → List Slot → Judged
+abbrev pub atFirst : ℕ → List Slot → Finding
 atFirst n [] = fine
 atFirst n (x ∷ xs) = atItem n (x .group) (x .item)
 
-abbrev pub judgeMost : List Slot → Judged
+abbrev pub judgeMost : List Slot → Finding
 judgeMost xs = atFirst 46 (drop 512 xs)
 
 -- A call
@@ -181,16 +181,16 @@ openingOf (groups-opened.InvalidGroup g i) = unopened 45 0 g i
 openingOf (groups-opened.TooManySlots g i) = unopened 46 0 g i
 openingOf groups-opened.TooShort = unopened 39 0 0 0
 
-abbrev pub afterJudging : Judged → ℕ → Opening
+abbrev pub afterJudging : Finding → ℕ → Opening
 afterJudging fine n = opened n
 afterJudging (refused n p g i) m = unopened n p g i
 
 -- "the whole card is judged first, (...) then 46, then 39"
-unfoldable pub judgeOpening : List ℕ → ℕ → Judged
+unfoldable pub judgeOpening : List ℕ → ℕ → Finding
 judgeOpening s room =
     judgeGroups s
-    andNext judgeMost (slotsOf s)
-    andNext judgedWhen (ltb room (length (slotRecords s))) (atByte 39 0)
+    andThen judgeMost (slotsOf s)
+    andThen foundWhen (ltb room (length (slotRecords s))) (atByte 39 0)
 
 unfoldable pub openRule : List ℕ → ℕ → Opening
 openRule s room = afterJudging (judgeOpening s room) (length (slotRecords s))

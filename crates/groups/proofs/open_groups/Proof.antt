@@ -1,6 +1,6 @@
 -- `groups::open_groups` meets its contract: what judging refuses is refused, and what it finds fine is opened.
 use mathlib.Core.Path.{sym, ap, _∙_}
-use Rattle.groups_judge.specs.Found.{judgedOf}
+use Rattle.groups_judge.specs.Found.{findingOf}
 use Rattle.groups.proofs.Calls.{refused-so}
 use borrow.Author.Needs.{needs}
 use Rattle.groups.proofs.open_groups.Statement.{statement}
@@ -39,19 +39,19 @@ open-judged-requires : tie.Need-open-judged-requires
 open-judged-requires c κs =
     let judge = c .before .before .before .before .before .judge-groups in
     let told = c .before .before .enum-told in
-    (sym (judge .ensures .0) ∙ ap judgedOf (told .given .1), (search needs, judge .ensures .1))
+    (sym (judge .ensures .0) ∙ ap findingOf (told .given .1), (search needs, judge .ensures .1))
 
 -- src/lib.rt:54:1
 returns : tie.Need-returns
 returns c =
     let judge = c .before .before .before .before .judge-groups in
-    refused-so _ _ _ _ _ _ (sym (judge .ensures .0) ∙ ap judgedOf (c .before .judged .given .1))
+    refused-so _ _ _ _ _ _ (sym (judge .ensures .0) ∙ ap findingOf (c .before .judged .given .1))
 
 -- src/lib.rt:54:1
 returns-2 : tie.Need-returns-2
 returns-2 c =
     let judge = c .before .before .before .before .judge-groups in
-    refused-so _ _ _ _ _ _ (sym (judge .ensures .0) ∙ ap judgedOf (c .before .judged2 .given .1))
+    refused-so _ _ _ _ _ _ (sym (judge .ensures .0) ∙ ap findingOf (c .before .judged2 .given .1))
 
 -- src/lib.rt:54:1
 same-length : tie.Need-same-length

@@ -1,14 +1,14 @@
 -- `groups::open_judged` meets its contract: what opening the last group finds is what the rule says of its slots.
-use Prim.Native.Nat.{_*_, _≤_}
+use Prim.Native.Nat.{_≤_}
 use native.Mathlib.Omega.{arith}
 use mathlib.Core.Path.{_≡_, sym, _∙_, subst}
 use mathlib.Core.List.{map}
 use lib.ListN.{length, take}
 use lib.Seq.{length-take-le}
-use Rattle.ray_tracing.specs.Groups.{Slot, groupCount, slotsOf, fine, judgeGroups}
+use Rattle.ray_tracing.specs.Groups.{Slot, groupCount, slotsOf}
 use Rattle.groups_judge.proofs.Laws.{FineGroups, fine-groups}
-use Rattle.groups_open.specs.Places.{counted, Judged}
-use Rattle.groups_open.specs.declared.Opened.the-variants.{Slots, Full}
+use Rattle.groups_open.specs.Places.{counted, JudgedFine}
+use Rattle.groups_open.specs.declared.Opened.the-variants.{Slots}
 use Rattle.groups_open.proofs.Laws.{counted-all}
 use Rattle.groups.proofs.Calls.{over-so, short-so, found-within, wrote-so, counted-so, places-so, table-so}
 use borrow.Author.Needs.{needs}
@@ -57,7 +57,7 @@ open-group-requires c κs =
     let start = read .before .before .before .before in
     let n = length-take-le (read .u16-at .result) (start .args .starts .now) (omega (arith, count read, shown read .most)) in (
       (
-        subst (λ n. Judged (start .args .groups .now) (take n (start .args .starts .now))) (sym (count read))
+        subst (λ n. JudgedFine (start .args .groups .now) (take n (start .args .starts .now))) (sym (count read))
             (table-so (start .args .groups .now) (start .args .starts .now) (start .pre .0) (start .pre .1 .0) (start .pre .1 .1)),
         omega (arith, n, count read, shown read .some),
       ),

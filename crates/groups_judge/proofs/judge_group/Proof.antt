@@ -1,5 +1,5 @@
 -- `groups_judge::judge_group` meets its contract. The invariant: the items left are judged as the whole, and end where it does.
-use Prim.Native.Nat.{_+_, _-_, _≤_}
+use Prim.Native.Nat.{_-_, _≤_}
 use mathlib.Core.Path.{refl, sym}
 use native.Mathlib.Omega.{arith}
 use borrow.Author.Needs.{needs}

@@ -11,23 +11,8 @@ use borrow.Fn.PlainCycle.{Measures, is, falls, and}
 use Rattle.wire.specs.Wire.{leAt}
 use Rattle.wire.proofs.u16_at.Reads as u16-at-reads
 use Rattle.wire.proofs.u8_at.Reads as u8-at-reads
-use Rattle.groups_judge.proofs.Laws.{size-named, item-inside, item-earlier}
-use Rattle.groups_open.proofs.Laws.{
-  Rest,
-  rest-all,
-  rest-none,
-  rest-more,
-  rest-stop,
-  item-room,
-  item-full,
-  item-group,
-  byte-inside,
-  LeftFine,
-  fine-all,
-  fine-first,
-  fine-more,
-  group-fine,
-}
+use Rattle.groups_judge.proofs.Laws.{size-named, item-begins, item-inside, item-earlier}
+use Rattle.groups_open.proofs.Laws.{Rest, rest-all, rest-none, rest-more, rest-stop, item-room, item-full, item-group, LeftFine, fine-all, fine-first, fine-more, group-fine}
 use Rattle.groups_open.proofs.item_size.Reads as item-size-reads
 use Rattle.groups_open.proofs.open_group.Reads as open-group
 use Rattle.groups_open.proofs.open_group.Kinds as open-group-kinds
@@ -126,7 +111,7 @@ pub +open-group+open-item-spec : {M : Type 1} → statement M
     let l = turn .before .loop in
     let a = turn .before .before .before .before .before .before .before .args in
     let first = fine-first (a .groups .now) (a .group) (turn .before .before .u16-at .result) (l .at) (l .i) (turn .loop-test .taken) (l .inv .3) in
-    omega (arith, byte-inside (a .groups .now) (a .group) (l .i) (l .at) first))
+    omega (arith, item-begins (a .groups .now) (a .group) (l .i) (l .at) first))
     -- add-at-2
     (λ c. let turn = c .before .before .before .before .before .before .before .before in
     let l = turn .before .loop in
@@ -168,11 +153,11 @@ pub +open-group+open-item-spec : {M : Type 1} → statement M
     -- u8-at-requires
     (λ c κs. let start = c .before .before .before in
     let a = start .args in
-    omega (arith, byte-inside (a .groups .now) (a .group) (a .item) (a .at) (start .pre .1 .0 .1 .1)))
+    omega (arith, item-begins (a .groups .now) (a .group) (a .item) (a .at) (start .pre .1 .0 .1 .1)))
     -- add-u16-at
     (λ c. let start = c .before .before .before .before .before in
     let a = start .args in
-    omega (arith, byte-inside (a .groups .now) (a .group) (a .item) (a .at) (start .pre .1 .0 .1 .1), start .good .0 .0))
+    omega (arith, item-begins (a .groups .now) (a .group) (a .item) (a .at) (start .pre .1 .0 .1 .1), start .good .0 .0))
     -- u16-at-requires
     (λ c κs. let start = c .before .before .before .before .before in
     let a = start .args in
