@@ -155,14 +155,16 @@ def test_program_verbs():
         for words in ([""], ["explai"], ["explainx"], ["canonica"], ["canonicalx"], ["x" * 100], ["explain", "explain"], ["canonical", ""]):
             assert program(data, *words) == b"", words
     for data in card_bytes():
-        text, said = opened_card(data)
-        assert program(data, "open", said=(said or f"opened {len(text)}\n").encode()) == text
-        for words in (["ope"], ["openx"], ["open", ""]):
-            assert program(data, *words) == b"", words
+        text, why = opened_card(data)
+        assert program(data, "open", said=b"" if why else f"opened {len(text)}\n".encode()) == text
+        assert program(data, "unopened") == (why or "nothing is refused\n").encode()
+    for words in (["ope"], ["openx"], ["open", ""], ["unopene"], ["unopenedx"], ["unopened", "open"]):
+        assert program(data, *words) == b"", words
     # what fills the buffer may be longer
     whole = long_card()
     assert program(whole, "open", said=b"opened 56\n") == whole[-56:]
-    assert program(whole + b"\0", "open") == program(whole + bytes(100_000), "open") == b""
+    for verb in ("open", "unopened"):
+        assert program(whole + b"\0", verb) == program(whole + bytes(100_000), verb) == b"", verb
 
 
 # ---- sheets and statuses
@@ -752,7 +754,7 @@ def test_first_open():
     for file in (good, bad):
         run = Run(checkout(), "--open", file, env=environment(TRIED=liar))
         assert run.status == 2 and run.out == bytes(112) and "are not its answer" in run.err, run
-    liar.write_text("#!/bin/sh\necho 'refused 2: sheet ends early, byte 0' >&2\n")
+    liar.write_text("#!/bin/sh\n[ $1 = open ] || echo 'refused 2: sheet ends early, byte 0'\n")
     run = Run(checkout(), "--open", good, env=environment(TRIED=liar))
     assert run.status == 2 and run.out == text and "answers otherwise, and this is its answer" in run.err, run
 
@@ -762,8 +764,8 @@ def test_open_cut_short():
     cut, card = room / "cut_slots", room / "cut.card"
     card.write_bytes(cards.data_of(cards.SMALL))
     texts = ("true", "head -c 56 /dev/zero", "echo opened 56 >&2", "echo opened 0 >&2", "head -c 56 /dev/zero; echo opened 112 >&2", "echo x >&2")
-    more = ("head -c 56 /dev/zero; echo refused 2: x >&2", "printf 'refused 2: x' >&2", "printf 'refused 2: x\nrefused 3: x\n' >&2", "echo nothing is refused >&2")
-    for text in (*texts, *more):
+    words = ("printf 'refused 2: x'", "printf 'refused 2: x\nrefused 3: x\n'", "echo nothing is refused", "echo refused")
+    for text in (*texts, *(f"[ $1 = open ] || {w}" for w in words), "echo refused 2: x >&2", "head -c 56 /dev/zero; echo refused 2: x >&2"):
         cut.write_text(f"#!/bin/sh\n{text}\n")
         cut.chmod(0o755)
         for env in (environment(PROGRAM=cut, TRY_FAILS=1), environment(PROGRAM=cut)):

@@ -3,8 +3,9 @@
 // decide what is printed (`report-prefix` of `report`, `explained-prefix` of `explain`) and whether a sheet is read at all (`prefix-decides` of
 // `ray_tracing`). None has more than 56,415, so that no part of a longer input is written as one.
 //
-// With the verb `open` the input is groups of slots: the opened slots go to standard output, and to standard error a line with how many bytes
-// those are, or why there are none, in words. Of an input that is longer than 1,048,575 bytes nothing is printed.
+// With the verb `open` the input is groups of slots, and the slots that they open to are printed, with a line to standard error that says how
+// many bytes those are; nothing where they are refused. With `unopened` it is printed in words why they are. Of an input that is longer than
+// 1,048,575 bytes nothing is printed. Both take it by one function, which so is compiled by itself: what prints sheets sets up no such stack.
 //
 // For other arguments it prints nothing.
 use libc::STDERR_FILENO;
@@ -20,12 +21,6 @@ ghost use lib.ListN.{length};
 fn print(text: &[u8], n: usize) {
     if n <= text.len() {
         io::write_all(STDOUT_FILENO, &text[0..n]);
-    }
-}
-
-fn say(text: &[u8], n: usize) {
-    if n <= text.len() {
-        io::write_all(STDERR_FILENO, &text[0..n]);
     }
 }
 
@@ -53,21 +48,60 @@ fn print_canonical(sheet: &[u8]) {
     }
 }
 
-// No words are more than 247 bytes.
-fn say_words(refusal: Refusal) {
-    let mut text = [0u8; 247];
-    if let Reported::Written(n) = report_words::words(refusal, &mut text) {
-        say(&text, n);
+// What opening the groups of the input came to; or it fills the buffer, and may be longer.
+enum Taken {
+    Whole(OpenAnswer),
+    Longer,
+}
+
+fn groups_buffer() -> [u8; 1048576]
+    ensures { λ r. ⌜ 1048576 ≡ length r ⌝ }
+{
+    [0; 1048576]
+}
+
+fn open_input(slots: &mut [u8]) -> Taken {
+    let mut groups = groups_buffer();
+    let n = io::read_full(STDIN_FILENO, &mut groups);
+    if n < groups.len() {
+        return Taken::Whole(capi_answers::open_answer(groups::open_groups(&groups[..n], slots)));
+    }
+    Taken::Longer
+}
+
+fn say_opened(n: u64) {
+    io::write_all(STDERR_FILENO, b"opened ");
+    io::print_decimal(STDERR_FILENO, n);
+    io::write_all(STDERR_FILENO, b"\n");
+}
+
+// No groups open to more than 512 slots of 56 bytes, and none that are not refused to none.
+fn print_slots() {
+    let mut out = [0u8; 28672];
+    if let Taken::Whole(a) = open_input(&mut out) {
+        let n = a.written as usize;
+        if a.number == 0 {
+            print(&out, n);
+            say_opened(a.written);
+        }
     }
 }
 
-// Of 45 and 46 the group and the item, of the others the place.
-fn say_unopened(a: OpenAnswer) {
+// No words are more than 247 bytes.
+fn print_words(refusal: Refusal) {
+    let mut text = [0u8; 247];
+    if let Reported::Written(n) = report_words::words(refusal, &mut text) {
+        print(&text, n);
+    }
+}
+
+// Of 45 and 46 with the group and the item, of the others with the place.
+fn print_refusal(a: OpenAnswer) {
     let mut e = a.place;
     if 45 <= a.number {
         e = a.group;
     }
-    say_words(Refusal {
+    print_words(Refusal {
         call: 6,
         number: a.number,
         e,
@@ -78,32 +112,10 @@ fn say_unopened(a: OpenAnswer) {
     });
 }
 
-// No groups open to more than 512 slots of 56 bytes.
-fn print_slots(groups: &[u8]) {
-    let mut out = [0u8; 28672];
-    let a = capi_answers::open_answer(groups::open_groups(groups, &mut out));
-    if a.number != 0 {
-        return say_unopened(a);
-    }
-    let n = a.written as usize;
-    print(&out, n);
-    io::write_all(STDERR_FILENO, b"opened ");
-    io::print_decimal(STDERR_FILENO, a.written);
-    io::write_all(STDERR_FILENO, b"\n");
-}
-
-fn groups_buffer() -> [u8; 1048576]
-    ensures { λ r. ⌜ 1048576 ≡ length r ⌝ }
-{
-    [0; 1048576]
-}
-
-// An input that fills the buffer may be longer.
-fn answer_groups() {
-    let mut groups = groups_buffer();
-    let n = io::read_full(STDIN_FILENO, &mut groups);
-    if n < groups.len() {
-        print_slots(&groups[..n]);
+fn print_unopened() {
+    let mut slots = [0u8; 28672];
+    if let Taken::Whole(a) = open_input(&mut slots) {
+        print_refusal(a);
     }
 }
 
@@ -127,7 +139,9 @@ fn answer_argument() {
     let n = os::arg(1, &mut space);
     let verb = &space[..n];
     if check::same(verb, b"open") {
-        answer_groups();
+        print_slots();
+    } else if check::same(verb, b"unopened") {
+        print_unopened();
     } else {
         answer_sheet(verb);
     }
