@@ -10,6 +10,7 @@ ROOT = pathlib.Path(__file__).resolve().parent.parent
 ENTRY = {
     "read_sheet": "sheet",
     "write_sheet": "sheet_write",
+    "open_groups": "groups",
     "build_acceleration_structures": "build",
     "submit": "submit",
     "validate_acceleration_structure_actions": "submit",

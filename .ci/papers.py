@@ -37,7 +37,7 @@ for line in read("crates.txt").splitlines():
             groups[group].append(name)
 family = {c: g for g, cs in groups.items() for c in cs}
 for crate, g in family.items():
-    if re.match(r"(sheet|build|submit|report|capi|cases)(_|$)", crate) and not crate.startswith(g):
+    if re.match(r"(sheet|groups|build|submit|report|capi|cases)(_|$)", crate) and not crate.startswith(g):
         faults.append(f"crates.txt: {crate} stands in the group {g}")
 
 
@@ -134,6 +134,7 @@ for paper in ["README.md", "docs/PROMISES.md", "docs/DECISIONS.md"]:
 
 CALLS = {
     "write_sheet": "WritesSheet",
+    "open_groups": "OpensGroups",
     "build_acceleration_structures": "Builds",
     "submit": "Submits",
     "validate_acceleration_structure_actions": "Validates",
@@ -141,6 +142,7 @@ CALLS = {
     "report": "Puts",
     "explain": "Puts",
     "zakvind_write_sheet": "WritesSheetAs",
+    "zakvind_open_groups": "OpensGroupsAs",
     "zakvind_build": "BuildsAs",
     "zakvind_submit": "Validates",
     "zakvind_append_instance": "AppendsAs",

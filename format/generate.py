@@ -99,7 +99,27 @@ below; for 1 to 6 another names the field or the id.
 ## Refusals
 
 E is entry and its geometry, or package and its slot, from 0; the second is 0 where there is none. In the library, a refused table is
-(section, record). "Both" is declared, given.
+(section, record). "Both" is declared, given. Of groups of slots 2 to 5 have their byte place too.
+"""
+
+GROUPS = """\
+## Groups of slots
+
+What `./zakvind --open CARD` and `zakvind_open_groups` take. A group count comes first, a u16, 1 to {groups}; then for each group its item count,
+a u16 from 1 on, and as many items. Nothing follows. All numbers are little-endian, groups and items are counted from 0.
+
+| Item | Bytes | What follows its first byte |
+|---|---|---|
+| 1 | {slot} | a slot's fields after its present byte, with any values: the item is a present slot as section 8 has it |
+| 2 | 3 | a u16: the number of a group that comes earlier |
+
+The last group is opened: each item in turn, a slot as it is, a group by opening it. What comes of it are the slots of section 8, one behind the
+other with the present byte 1, at least one and at most {most}: {room:,} bytes always have room for them.
+
+All groups are judged, whether the last one names them or not, from the start on: each number and field whole (2), the group count (4, or 45
+for 0), an item count (45 for 0), an item's first byte (5), the number of a group (45 if it is not an earlier one); then that nothing follows
+(3). Then the {next_one}th slot of the last group is refused (46) with the group and the item where it is written, then too little room (39).
+The most that is opened is {next_one} slots, however many are named: 64 groups that each name the one before twice name 2^63 in 564 bytes.
 """
 
 
@@ -203,6 +223,8 @@ def page():
         yield from section_text(s)
     ones = ", ".join(f"`{s.one}`" for s in SECTIONS)
     yield AS_TEXT.format(ones=ones, example=EXAMPLE, shown=example_shown())
+    slots = section(8)
+    yield GROUPS.format(groups=64, slot=size(slots.fields), most=slots.most, room=slots.most * size(slots.fields), next_one=slots.most + 1)
     yield PRINTED
     yield "| No. | Cause | Returned |\n|---|---|---|"
     yield from (f"| {n} | {c.words} | {c.returned} |" for n, c in CAUSES.items())

@@ -53,6 +53,6 @@ CAUSES = {
     42: Cause("Blas without number", ("Blas", "Tlas"), "action; Blas, Tlas in a build; Tlas, Blas in a use"),
     43: Cause("Tlas without number", ("Tlas",), "action, Tlas"),
     44: Cause("Blas newer than Tlas", ("Blas", "Tlas"), "action, Blas, Tlas"),
-    45: Cause("count 0, or a group that is not an earlier one", (), "group, item"),
-    46: Cause("more than 512 slots", (), "group, item"),
+    45: Cause("count 0, or a group that is not an earlier one", (), "group, item, 0 where there is none"),
+    46: Cause("more than 512 slots", (), "group, item: of the 513th slot"),
 }

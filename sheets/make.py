@@ -1,5 +1,6 @@
 #!/usr/bin/env python3
-"""Writes the sheets of this folder, and with --check only says which differ. README.md has what each shows, and what is printed for it."""
+"""Writes the sheets and the card of this folder, and with --check only says which differ. README.md has what each shows, and what is printed
+for it."""
 import pathlib
 import struct
 import sys
@@ -7,8 +8,10 @@ import sys
 here = pathlib.Path(__file__).resolve().parent
 sys.path.insert(0, str(here.parent / "tests"))
 
+from groups import open_groups, opened  # noqa: E402
+from make_groups_cases import data_of  # noqa: E402
 from make_read_cases import record, sheet, worked  # noqa: E402
-from printed import explained, explanation, told  # noqa: E402
+from printed import explained, explanation, told, words as words_for  # noqa: E402
 from reading import NONE, Walked  # noqa: E402
 from verdict import Verdict  # noqa: E402
 
@@ -77,16 +80,32 @@ def sheets():
     yield "nothing-recorded", collection([(BUILD, 0), (USE, 0)], build=False)
 
 
+def card():
+    """A row of four, a bay of two such rows and a post, a house of two such bays and a stand; a slot's fields after its present byte."""
+    row = [slot(k % 2, k, 0.5 * k, 0.0)[1:] for k in range(4)]
+    return data_of([row, [0, 0, slot(3, 901, -1.0, 6.4)[1:]], [1, 1, slot(2, 900, -1.0, 0.0)[1:]]])
+
+
+def put(file, data):
+    """Writes a file, or says whether it is another."""
+    if sys.argv[1:] != ["--check"]:
+        file.write_bytes(data)
+    return file.is_file() and file.read_bytes() == data
+
+
 def main():
     readme = (here / "README.md").read_text()
     wrong = []
+    if not put(here / "bays.card", card()):
+        wrong.append("bays.card")
+    slots = opened(card(), 28672)
+    (number, place, *_), _ = open_groups(card()[:-1], b"")
+    said = (f"its {len(card())} bytes", f"{len(slots) // 56} slots, {len(slots)} bytes", words_for(6, number, place, 0, 0, 0, 0))
+    if not all(words in readme for words in said):
+        wrong.append("what README.md has for bays.card")
     for name, data in sheets():
-        file = here / f"{name}.sheet"
-        if sys.argv[1:] == ["--check"]:
-            if not file.is_file() or file.read_bytes() != data:
-                wrong.append(file.name)
-        else:
-            file.write_bytes(data)
+        if not put(here / f"{name}.sheet", data):
+            wrong.append(f"{name}.sheet")
         text, refusal = told(data)
         words = explanation(refusal) + Verdict(Walked(data), explained(data)).named
         if text not in readme or words.strip() not in readme:

@@ -121,13 +121,16 @@ def damaged():
                 groups = [list(items) for items in NESTED]
                 groups[group][item] = named
                 yield data_of(groups)
-    # 45 against what comes later: the first refusal counts, and any before 46
+    # what comes first counts, whatever comes later; and anything that is judged before 46
     full = data_of(doubled(MOST_GROUPS, [slot(7)]))
     yield from (full + b"\0", full[:-1], full[:-2] + number(63), data_of([*doubled(MOST_GROUPS - 1, [slot(7)]), [62, 62, 63]]))
     yield data_of([[slot(1)], [1], []])
     yield data_of([[slot(1)], [], [2]])
     yield data_of([slots(513), [1]])
     yield data_of([slots(513), []])
+    yield data_of([slots(513)]) + b"\0"
+    yield data_of([slots(513), [0]])[:-1]
+    yield data_of([slots(513), [0]])[:-3] + b"\7"
     yield data_of([[], slots(513)])
     yield data_of([[slot(1)], [5, 7], [9]])[:-1]
     yield number(2) + group_bytes([slot(1)]) + number(2) + b"\2" + number(1) + b"\7"
