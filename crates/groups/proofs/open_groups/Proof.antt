@@ -10,54 +10,43 @@ use Rattle.groups.proofs.open_groups.Lts as lts
 use Rattle.groups.proofs.open_judged.Reads as open-judged-reads
 use Rattle.groups_judge.proofs.judge_groups.Reads as judge-groups-reads
 
--- src/lib.rt:58:39
 slice-aggregate-judge-groups : tie.Need-slice-aggregate-judge-groups
 slice-aggregate-judge-groups c = search needs
 
--- src/lib.rt:58:9
 judge-groups-requires : tie.Need-judge-groups-requires
 judge-groups-requires c κs = search needs
 
--- src/lib.rt:60:31
 enum-known-judged : tie.Need-enum-known-judged
 enum-known-judged c = search needs
 
--- src/lib.rt:61:36
 enum-known-judged-2 : tie.Need-enum-known-judged-2
 enum-known-judged-2 c = search needs
 
--- src/lib.rt:62:56
 enum-told : tie.Need-enum-told
 enum-told c = search needs
 
--- src/lib.rt:62:56
 slice-aggregate-open-judged : tie.Need-slice-aggregate-open-judged
 slice-aggregate-open-judged c = search needs
 
--- src/lib.rt:62:36
 open-judged-requires : tie.Need-open-judged-requires
 open-judged-requires c κs =
     let judge = c .before .before .before .before .before .judge-groups in
     let told = c .before .before .enum-told in
     (sym (judge .ensures .0) ∙ ap findingOf (told .given .1), (search needs, judge .ensures .1))
 
--- src/lib.rt:54:1
 returns : tie.Need-returns
 returns c =
     let judge = c .before .before .before .before .judge-groups in
     refused-so _ _ _ _ _ _ (sym (judge .ensures .0) ∙ ap findingOf (c .before .judged .given .1))
 
--- src/lib.rt:54:1
 returns-2 : tie.Need-returns-2
 returns-2 c =
     let judge = c .before .before .before .before .judge-groups in
     refused-so _ _ _ _ _ _ (sym (judge .ensures .0) ∙ ap findingOf (c .before .judged2 .given .1))
 
--- src/lib.rt:54:1
 same-length : tie.Need-same-length
 same-length c = search needs
 
--- src/lib.rt:54:1
 returns-3 : tie.Need-returns-3
 returns-3 c = search needs
 

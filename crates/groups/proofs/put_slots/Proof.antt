@@ -1,3 +1,4 @@
+-- `groups::put_slots` meets its contract. The invariant: writing the items that are left, from place k on, gives what writing all was to give.
 use Prim.Native.Nat.{_+_, _-_, _*_, _≤_}
 use mathlib.Core.Path.{_≡_, refl, sym, ap, _∙_}
 use lib.ListN.{length, getD, drop}
@@ -21,45 +22,37 @@ Inv-loop groups places slots₀ k₀ slots k =
 abbrev μ-loop : tie.MeasureT-loop
 μ-loop groups places slots₀ k₀ slots k = length places - k
 
--- src/lib.rt:20:5
 loop-holds : tie.Need-loop-holds Inv-loop μ-loop
 loop-holds c = (refl, refl, search needs)
 
+-- the item at the next place is whole
 whole :
     (c : lts.In-loop (put-bytes-reads.Asked, put-bytes-reads.Learnt) reads.Pre reads.Post Inv-loop μ-loop)
     → getD (c .before .before .before .before .before .args .places .now) (c .before .loop .k) 0 + 56
     ≤ length (c .before .before .before .before .before .args .groups .now)
 whole c = c .before .before .before .before .before .pre .0 (c .before .loop .k) (search needs)
 
--- src/lib.rt:21:18
 mul-at : tie.Need-mul-at Inv-loop μ-loop
 mul-at c = search needs
 
--- src/lib.rt:21:18
 shared-slice-read-at : tie.Need-shared-slice-read-at Inv-loop μ-loop
 shared-slice-read-at c = search needs
 
--- src/lib.rt:22:26
 mul-put-bytes : tie.Need-mul-put-bytes Inv-loop μ-loop
 mul-put-bytes c = omega (arith, whole (c .before .before))
 
--- src/lib.rt:22:53
 add-put-bytes : tie.Need-add-put-bytes Inv-loop μ-loop
 add-put-bytes c = omega (arith, whole (c .before .before))
 
--- src/lib.rt:22:41
 sub-put-bytes : tie.Need-sub-put-bytes Inv-loop μ-loop
 sub-put-bytes c = search needs
 
--- src/lib.rt:22:41
 part-put-bytes-start : tie.Need-part-put-bytes-start Inv-loop μ-loop
 part-put-bytes-start c = omega (arith, whole (c .before .before))
 
--- src/lib.rt:22:41
 part-put-bytes-end : tie.Need-part-put-bytes-end Inv-loop μ-loop
 part-put-bytes-end c = omega (arith, whole (c .before .before))
 
--- src/lib.rt:22:9
 put-bytes-requires : tie.Need-put-bytes-requires Inv-loop μ-loop
 put-bytes-requires c κs =
     let a = c .before .before .before .before .before .before .before .before .args in
@@ -68,15 +61,12 @@ put-bytes-requires c κs =
     let w = whole (c .before .before .before) in
     omega (arith, part-length (a .groups .now) (at + 56 - at) at (omega (arith, w)))
 
--- src/lib.rt:23:9
 add-k : tie.Need-add-k Inv-loop μ-loop
 add-k c = search needs
 
--- src/lib.rt:20:5
 loop-less : tie.Need-loop-less Inv-loop μ-loop
 loop-less c = search needs
 
--- src/lib.rt:20:5
 loop-again : tie.Need-loop-again Inv-loop μ-loop
 loop-again c =
     let a = c .before .before .before .before .before .before .before .before .before .before .before .args in
@@ -91,11 +81,9 @@ loop-again c =
       search needs,
     )
 
--- src/lib.rt:13:1
 same-length : tie.Need-same-length Inv-loop μ-loop
 same-length c = c .before .loop .inv .1
 
--- src/lib.rt:13:1
 returns : tie.Need-returns Inv-loop μ-loop
 returns c =
     let a = c .before .before .before .before .before .args in
