@@ -74,10 +74,18 @@ esac
 TOOLS = "awk basename bash cat cmp cp dirname env find flock grep head mkdir mktemp mv readlink rm rmdir sed sha256sum sleep sort tail tee touch tr wc"
 
 
+def put_program(file, text):
+    """Written by a process of its own: what other tests start at the same time would hold it open, and it could not be run then."""
+    subprocess.run(["sh", "-c", 'cat >"$1" && chmod 755 "$1"', "sh", file], input=text.encode(), check=True)
+
+
+def copy_program(source, target):
+    subprocess.run(["cp", "--", source, target], check=True)
+
+
 def stand_in(folder):
     folder.mkdir(parents=True)
-    (folder / "rt").write_text(RT)
-    (folder / "rt").chmod(0o755)
+    put_program(folder / "rt", RT)
     return folder
 
 
@@ -95,7 +103,7 @@ def checkout():
     """A copy of what the script needs, with nothing proved."""
     box = pathlib.Path(tempfile.mkdtemp(dir=room))
     box.chmod(0o755)
-    shutil.copy(root / "zakvind", box)
+    copy_program(root / "zakvind", box)
     shutil.copytree(root / "format", box / "format", ignore=shutil.ignore_patterns("__pycache__"))
     (box / "crates/zakvind/src").mkdir(parents=True)
     (box / "crates/zakvind/src/main.rt").write_text("STDOUT_FILENO\n")
@@ -397,8 +405,7 @@ def test_broken_first_runs():
     assert run.status == 1 and run.out == b"sheet 2 1998\n" and "no answer before the proofs" in run.err, run
     # another answer before the proofs
     liar = room / "liar"
-    liar.write_text("#!/bin/sh\necho sheet 2 7\n")
-    liar.chmod(0o755)
+    put_program(liar, "#!/bin/sh\necho sheet 2 7\n")
     run = Run(checkout(), SHEETS / "damaged.sheet", env=environment(TRIED=liar))
     assert run.status == 2 and run.out.endswith(b"sheet 2 1998\n") and "answers otherwise" in run.err, run
 
@@ -407,8 +414,7 @@ def test_program_cut_short():
     own = checkout()
     cut = room / "cut"
     for text in ("", "build 0 0 0 0 0 0\\n", "sheet 2", "build 0 0 0 0 0 0\\nscratch 512\\nsubmit 0 0 0 0\\nnext 2", "nonsense\\n"):
-        cut.write_text(f"#!/bin/sh\nprintf '{text}'\n")
-        cut.chmod(0o755)
+        put_program(cut, f"#!/bin/sh\nprintf '{text}'\n")
         run = Run(own, SHEETS / "usable.sheet", env=environment(PROGRAM=cut, TRY_FAILS=1))
         assert run.status == 2 and not run.out and "no whole answer" in run.err, (text, run)
         shutil.rmtree(own / "target")
@@ -434,7 +440,7 @@ def test_nothing_to_prove_with():
     shutil.rmtree(own / "crates")
     one_line(Run(own, usable), "the program is not there")
     (own / "bin").mkdir()
-    shutil.copy(PROGRAM, own / "bin/zakvind")
+    copy_program(PROGRAM, own / "bin/zakvind")
     link = room / "link"
     link.symlink_to(own / "zakvind")
     done = subprocess.run([link, usable], stdout=subprocess.PIPE, check=True)
@@ -463,8 +469,7 @@ def really_tried(name):
     shutil.copy(root / "crates.txt", own)
     (room / name).mkdir()
     wrapper = room / name / "rt"
-    wrapper.write_text(f'#!/bin/sh\n[ "$1" != try ] || exec {real} "$@"\nexec {room}/rt/rt "$@"\n')
-    wrapper.chmod(0o755)
+    put_program(wrapper, f'#!/bin/sh\n[ "$1" != try ] || exec {real} "$@"\nexec {room}/rt/rt "$@"\n')
     return own, environment(path=f"{room}/{name}:{os.environ['PATH']}")
 
 
@@ -634,16 +639,14 @@ def test_first_canonical():
         assert run.status == 2 and "could not be proved" in run.err, run
     # bytes that the proved program does not confirm are not followed by others
     liar = room / "other_bytes"
-    liar.write_text("#!/bin/sh\nhead -c $(wc -c <crates/zakvind/stdin) /dev/zero\n")
-    liar.chmod(0o755)
+    put_program(liar, "#!/bin/sh\nhead -c $(wc -c <crates/zakvind/stdin) /dev/zero\n")
     run = Run(checkout(), "--canonical", usable, env=environment(TRIED=liar))
     assert run.status == 2 and run.out == bytes(len(sheet("usable"))) and "are not its answer" in run.err, run
     run = Run(checkout(), "--same", usable, usable, env=environment(TRIED=liar))
     assert run.status == 2 and run.out == b"same\n" * 2 and "answers otherwise" in run.err, run
     # a refusal that it does not confirm
     refuses = room / "refuses"
-    refuses.write_text("#!/bin/sh\n[ $1 = canonical ] || printf 'sheet 2 0\\nrefused 2: sheet ends early, byte 0\\n'\n")
-    refuses.chmod(0o755)
+    put_program(refuses, "#!/bin/sh\n[ $1 = canonical ] || printf 'sheet 2 0\\nrefused 2: sheet ends early, byte 0\\n'\n")
     for words, out in ((("--canonical", usable), canonical(sheet("usable"))), (("--same", usable, usable), b"same\n")):
         run = Run(checkout(), *words, env=environment(TRIED=refuses))
         assert run.status == 2 and run.out == out and "answers otherwise, and this is its answer" in run.err, run
@@ -654,8 +657,7 @@ def test_canonical_cut_short():
     cut = room / "cut_bytes"
     usable = SHEETS / "usable.sheet"
     for text in ("true", "head -c 222 /dev/zero", "head -c 224 /dev/zero", "[ $1 = canonical ] || printf 'build 6 0 0 0 0 0\\nrefused 6: id\\n'", "echo x"):
-        cut.write_text(f"#!/bin/sh\n{text}\n")
-        cut.chmod(0o755)
+        put_program(cut, f"#!/bin/sh\n{text}\n")
         for words in (("--canonical", usable), ("--same", usable, usable)):
             run = Run(checkout(), *words, env=environment(PROGRAM=cut, TRY_FAILS=1))
             assert run.status == 2 and not run.out and "no whole answer" in run.err, (text, run)
@@ -752,12 +754,11 @@ def test_first_open():
         assert run.status == 2 and "could not be proved" in run.err, run
     # bytes that the proved program does not confirm are not followed by others, a refusal is
     liar = room / "other_slots"
-    liar.write_text("#!/bin/sh\nhead -c 112 /dev/zero\necho opened 112 >&2\n")
-    liar.chmod(0o755)
+    put_program(liar, "#!/bin/sh\nhead -c 112 /dev/zero\necho opened 112 >&2\n")
     for file in (good, bad):
         run = Run(checkout(), "--open", file, env=environment(TRIED=liar))
         assert run.status == 2 and run.out == bytes(112) and "are not its answer" in run.err, run
-    liar.write_text("#!/bin/sh\n[ $1 = open ] || echo 'refused 2: sheet ends early, byte 0'\n")
+    put_program(liar, "#!/bin/sh\n[ $1 = open ] || echo 'refused 2: sheet ends early, byte 0'\n")
     run = Run(checkout(), "--open", good, env=environment(TRIED=liar))
     assert run.status == 2 and run.out == text and "answers otherwise, and this is its answer" in run.err, run
 
@@ -769,8 +770,7 @@ def test_open_cut_short():
     texts = ("true", "head -c 56 /dev/zero", "echo opened 56 >&2", "echo opened 0 >&2", "head -c 56 /dev/zero; echo opened 112 >&2", "echo x >&2")
     words = ("printf 'refused 2: x'", "printf 'refused 2: x\nrefused 3: x\n'", "echo nothing is refused", "echo refused")
     for text in (*texts, *(f"[ $1 = open ] || {w}" for w in words), "echo refused 2: x >&2", "head -c 56 /dev/zero; echo refused 2: x >&2"):
-        cut.write_text(f"#!/bin/sh\n{text}\n")
-        cut.chmod(0o755)
+        put_program(cut, f"#!/bin/sh\n{text}\n")
         for env in (environment(PROGRAM=cut, TRY_FAILS=1), environment(PROGRAM=cut)):
             run = Run(checkout(), "--open", file, env=env)
             assert run.status == 2 and not run.out and "no whole answer" in run.err, (text, run)
