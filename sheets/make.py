@@ -1,5 +1,5 @@
 #!/usr/bin/env python3
-"""Writes the sheets and the card of this folder, and with --check only says which differ. README.md has what each shows, and what is printed
+"""Writes the sheets and the groups of this folder, and with --check only says which differ. README.md has what each shows, and what is printed
 for it."""
 import pathlib
 import struct
@@ -80,10 +80,10 @@ def sheets():
     yield "nothing-recorded", collection([(BUILD, 0), (USE, 0)], build=False)
 
 
-def card():
+def nested():
     """A row of four, a bay of two such rows and a post, a house of two such bays and a stand; a slot's fields after its present byte."""
-    row = [slot(k % 2, k, 0.5 * k, 0.0)[1:] for k in range(4)]
-    return data_of([row, [0, 0, slot(3, 901, -1.0, 6.4)[1:]], [1, 1, slot(2, 900, -1.0, 0.0)[1:]]])
+    four = [slot(k % 2, k, 0.5 * k, 0.0)[1:] for k in range(4)]
+    return data_of([four, [0, 0, slot(3, 901, -1.0, 6.4)[1:]], [1, 1, slot(2, 900, -1.0, 0.0)[1:]]])
 
 
 def put(file, data):
@@ -96,13 +96,13 @@ def put(file, data):
 def main():
     readme = (here / "README.md").read_text()
     wrong = []
-    if not put(here / "bays.card", card()):
-        wrong.append("bays.card")
-    slots = opened(card(), 28672)
-    (number, place, *_), _ = open_groups(card()[:-1], b"")
-    said = (f"its {len(card())} bytes", f"{len(slots) // 56} slots, {len(slots)} bytes", words_for(6, number, place, 0, 0, 0, 0))
+    if not put(here / "nested.groups", nested()):
+        wrong.append("nested.groups")
+    slots = opened(nested(), 28672)
+    (number, place, *_), _ = open_groups(nested()[:-1], b"")
+    said = (f"its {len(nested())} bytes", f"{len(slots) // 56} slots, {len(slots)} bytes", words_for(6, number, place, 0, 0, 0, 0))
     if not all(words in readme for words in said):
-        wrong.append("what README.md has for bays.card")
+        wrong.append("what README.md has for nested.groups")
     for name, data in sheets():
         if not put(here / f"{name}.sheet", data):
             wrong.append(f"{name}.sheet")

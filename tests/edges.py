@@ -23,7 +23,7 @@ root = pathlib.Path(__file__).resolve().parent.parent
 sys.path[:0] = [str(root / "format"), str(root / "tests")]
 
 import make_build_cases as builds  # noqa: E402
-import make_groups_cases as cards  # noqa: E402
+import make_groups_cases as nested  # noqa: E402
 import make_read_cases as reads  # noqa: E402
 import make_report_cases as reports  # noqa: E402
 import make_write_cases as writes  # noqa: E402
@@ -154,14 +154,14 @@ def test_program_verbs():
         assert program(data, "canonical") == (b"" if Walked(data).refusal else canonical(data))
         for words in ([""], ["explai"], ["explainx"], ["canonica"], ["canonicalx"], ["x" * 100], ["explain", "explain"], ["canonical", ""]):
             assert program(data, *words) == b"", words
-    for data in card_bytes():
-        text, why = opened_card(data)
+    for data in some_groups():
+        text, why = opened_slots(data)
         assert program(data, "open", said=b"" if why else f"opened {len(text)}\n".encode()) == text
         assert program(data, "unopened") == (why or "nothing is refused\n").encode()
     for words in (["ope"], ["openx"], ["open", ""], ["unopene"], ["unopenedx"], ["unopened", "open"]):
         assert program(data, *words) == b"", words
     # what fills the buffer may be longer
-    whole = long_card()
+    whole = long_groups()
     assert program(whole, "open", said=b"opened 56\n") == whole[-56:]
     for verb in ("open", "unopened"):
         assert program(whole + b"\0", verb) == program(whole + bytes(100_000), verb) == b"", verb
@@ -261,9 +261,9 @@ def test_output_lost():
             run = Run(box, *words, stdout=full)
         assert run.status == 2 and run.err.count("\n") == 1 and "standard output" in run.err, run
     usable = SHEETS / "usable.sheet"
-    card = room / "lost.card"
-    card.write_bytes(cards.data_of(cards.SMALL))
-    opens = ("--open", card)
+    file = room / "lost.groups"
+    file.write_bytes(nested.data_of(nested.SMALL))
+    opens = ("--open", file)
     for words in (("--picture", usable), ("--make", text), ("--help",), (usable, usable), ("--canonical", usable), ("--same", usable, usable), opens):
         with open("/dev/full", "wb") as full:
             run = Run(box, *words, stdout=full)
@@ -484,9 +484,9 @@ def test_real_try_of_slots():
     """And for opened slots, as many as there may be."""
     if tried := really_tried("real-slots"):
         own, env = tried
-        data = cards.data_of(cards.doubled(10, [cards.slot(7)]))
+        data = nested.data_of(nested.doubled(10, [nested.slot(7)]))
         run = Run(own, "--open", env=env, input=data)
-        assert run.status == 0 and run.out == opened_card(data)[0] and len(run.out) == cards.FULL and "answers the same" in run.err, run
+        assert run.status == 0 and run.out == opened_slots(data)[0] and len(run.out) == nested.FULL and "answers the same" in run.err, run
 
 
 def test_real_try_of_bytes():
@@ -664,60 +664,63 @@ def test_canonical_cut_short():
 # ---- groups of slots
 
 
-def opened_card(data):
+def opened_slots(data):
     """The slots that a card opens to, and the line that refuses it."""
-    (number, place, group, item, written), left = open_groups(data, bytes(cards.FULL))
+    (number, place, group, item, written), left = open_groups(data, bytes(nested.FULL))
     return left[:written], words_for(6, number, group if number > 44 else place, item, 0, 0, 0) if number else ""
 
 
-def card_bytes():
+def some_groups():
     """Cards of each answer, small and large."""
-    small = cards.data_of(cards.SMALL)
-    whole = [cards.data_of(groups) for groups in cards.whole()]
-    return [*whole, b"", small[:1], small[:70], small[:-1], small + b"\0", cards.number(65), cards.number(0), *[*cards.damaged()][-40:]]
+    small = nested.data_of(nested.SMALL)
+    whole = [nested.data_of(groups) for groups in nested.whole()]
+    return [*whole, b"", small[:1], small[:70], small[:-1], small + b"\0", nested.number(65), nested.number(0), *[*nested.damaged()][-40:]]
 
 
-def long_card(length=1048575):
+def long_groups(length=1048575):
     """A card so long, by default as long as one may be here: the last of three groups is a slot, and the one before is never named."""
-    left = length - len(cards.data_of([[cards.slot(1)], [], [cards.slot(3)]]))
+    left = length - len(nested.data_of([[nested.slot(1)], [], [nested.slot(3)]]))
     slots = next(n for n in range(left // 56, 0, -1) if (left - 56 * n) % 3 == 0)
-    data = cards.data_of([[cards.slot(1)], [cards.slot(2)] * slots + [0] * ((left - 56 * slots) // 3), [cards.slot(3)]])
+    data = nested.data_of([[nested.slot(1)], [nested.slot(2)] * slots + [0] * ((left - 56 * slots) // 3), [nested.slot(3)]])
     assert len(data) == length
     return data
 
 
 def test_open():
     told = {}
-    some = card_bytes()
+    some = some_groups()
     with concurrent.futures.ThreadPoolExecutor(2) as pool:
         for data, run in zip(some, pool.map(lambda data: Run(box, "--open", input=data), some)):
-            text, why = opened_card(data)
+            text, why = opened_slots(data)
             told[why.split(":")[0]] = told.get(why.split(":")[0], 0) + 1
             if why:
                 refused_line(run, 1, f"zakvind: standard input: {why[:-1]}")
             else:
                 assert run.status == 0 and run.out == text and not run.err, run
     assert sorted(told) == ["", *(f"refused {n}" for n in (2, 3, 4, 45, 46, 5))], told
-    file = room / "a\nb.card"
-    file.write_bytes(cards.data_of(cards.NESTED))
+    shipped = SHEETS / "nested.groups"
+    run = Run(box, "--open", shipped)
+    assert run.status == 0 and run.out == opened_slots(shipped.read_bytes())[0] and len(run.out) == 1064 and not run.err, run
+    file = room / "a\nb.groups"
+    file.write_bytes(nested.data_of(nested.NESTED))
     for words in ((file,), ("--", file)):
         run = Run(box, "--open", *words)
-        assert run.status == 0 and run.out == opened_card(file.read_bytes())[0] and not run.err, run
-    file.write_bytes(cards.data_of(cards.SMALL)[:-1])
-    refused_line(Run(box, "--open", file), 1, "\\nb.card': refused 2: sheet ends early, byte ")
+        assert run.status == 0 and run.out == opened_slots(file.read_bytes())[0] and not run.err, run
+    file.write_bytes(nested.data_of(nested.SMALL)[:-1])
+    refused_line(Run(box, "--open", file), 1, "\\nb.groups': refused 2: sheet ends early, byte ")
     one_line(Run(box, "--open", SHEETS), "folder")
     one_line(Run(box, "--open", stdin=None, preexec_fn=lambda: os.close(0)), "cannot be read")
     # neither Python nor a sheet is needed
     lacking = environment(path=str(tools(room / "open-plain")))
-    run = Run(box, "--open", input=cards.data_of(cards.SMALL), env=lacking)
-    assert run.status == 0 and run.out == opened_card(cards.data_of(cards.SMALL))[0] and not run.err, run
+    run = Run(box, "--open", input=nested.data_of(nested.SMALL), env=lacking)
+    assert run.status == 0 and run.out == opened_slots(nested.data_of(nested.SMALL))[0] and not run.err, run
     refused_line(Run(box, "--open", SHEETS / "usable.sheet", env=lacking), 1, "usable.sheet: refused 5: value outside its field, byte 4")
 
 
 def test_open_long():
     """A card may be longer than any sheet; one that is longer than what is kept is not judged at all, and never by a part of it."""
     for n in (56_415, 56_416, 65_535, 65_536, 65_537, 100_000, 1_048_575):
-        whole = long_card(n)
+        whole = long_groups(n)
         run = Run(box, "--open", input=whole)
         assert run.status == 0 and run.out == whole[-56:] and not run.err, run
         refused_line(Run(box, "--open", input=whole[:-1]), 1, f"refused 2: sheet ends early, byte {n - 4}")
@@ -732,10 +735,10 @@ def test_open_long():
 
 def test_first_open():
     """Before the proofs, and what becomes of that answer."""
-    good, bad = room / "first.card", room / "first-refused.card"
-    good.write_bytes(cards.data_of(cards.NESTED))
-    bad.write_bytes(cards.data_of([[cards.slot(1)], [1]]))
-    text = opened_card(good.read_bytes())[0]
+    good, bad = room / "first.groups", room / "first-refused.groups"
+    good.write_bytes(nested.data_of(nested.NESTED))
+    bad.write_bytes(nested.data_of([[nested.slot(1)], [1]]))
+    text = opened_slots(good.read_bytes())[0]
     for file, status, out in ((good, 0, text), (bad, 1, b"")):
         own = checkout()
         first = Run(own, "--open", file)
@@ -761,15 +764,15 @@ def test_first_open():
 
 def test_open_cut_short():
     """Other bytes than are said, bytes or a refusal without a word, words that refuse nothing: no answer."""
-    cut, card = room / "cut_slots", room / "cut.card"
-    card.write_bytes(cards.data_of(cards.SMALL))
+    cut, file = room / "cut_slots", room / "cut.groups"
+    file.write_bytes(nested.data_of(nested.SMALL))
     texts = ("true", "head -c 56 /dev/zero", "echo opened 56 >&2", "echo opened 0 >&2", "head -c 56 /dev/zero; echo opened 112 >&2", "echo x >&2")
     words = ("printf 'refused 2: x'", "printf 'refused 2: x\nrefused 3: x\n'", "echo nothing is refused", "echo refused")
     for text in (*texts, *(f"[ $1 = open ] || {w}" for w in words), "echo refused 2: x >&2", "head -c 56 /dev/zero; echo refused 2: x >&2"):
         cut.write_text(f"#!/bin/sh\n{text}\n")
         cut.chmod(0o755)
         for env in (environment(PROGRAM=cut, TRY_FAILS=1), environment(PROGRAM=cut)):
-            run = Run(checkout(), "--open", card, env=env)
+            run = Run(checkout(), "--open", file, env=env)
             assert run.status == 2 and not run.out and "no whole answer" in run.err, (text, run)
 
 

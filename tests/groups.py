@@ -87,14 +87,14 @@ def open_item(groups, group, item, what):
         yield from open_group(groups, what)
 
 
-def house(groups):
+def last_slots(groups):
     """ "The last group is the house": its slots, and of more than the first 513 no more."""
     return list(itertools.islice(open_group(groups, len(groups) - 1), MOST_SLOTS + 1))
 
 
 def opened(data, room):
     """The slots' records; "the whole card is judged first, from the start on, 45 included, then 46, then 39"."""
-    slots = house(read_groups(data))
+    slots = last_slots(read_groups(data))
     if len(slots) > MOST_SLOTS:
         group, item, _ = slots[MOST_SLOTS]
         raise Refused(46, 0, group, item)

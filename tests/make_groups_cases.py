@@ -9,7 +9,7 @@ import pathlib
 import random
 import struct
 
-from groups import FIELDS, MOST_GROUPS, MOST_SLOTS, SLOT, Refused, counts, house, open_group, open_groups, read_groups, slot_at
+from groups import FIELDS, MOST_GROUPS, MOST_SLOTS, SLOT, Refused, counts, last_slots, open_group, open_groups, read_groups, slot_at
 
 PATTERN = 165
 M = 4294967291
@@ -203,7 +203,7 @@ def hold(data):
         groups = read_groups(data)
     except Refused:
         return
-    n, found = counts(groups)[-1], house(groups)
+    n, found = counts(groups)[-1], last_slots(groups)
     assert len(found) == min(n, MOST_SLOTS + 1)
     some = range(len(found)) if len(found) < 60 else (0, 1, len(found) // 2, len(found) - 2, len(found) - 1)
     for k in some:
@@ -215,7 +215,7 @@ def hold(data):
                 if isinstance(what, int) and counts(groups)[what] <= MOST_SLOTS:
                     inside = [x for _, _, x in open_group(groups, what)]
                     other = [*groups[:group], [*items[:item], *inside, *items[item + 1 :]], *groups[group + 1 :]]
-                    assert [x for _, _, x in house(other)] == fields
+                    assert [x for _, _, x in last_slots(other)] == fields
 
 
 def main():
