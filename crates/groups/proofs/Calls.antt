@@ -6,7 +6,7 @@ use mathlib.Core.List.{List, map}
 use lib.ListN.{length, take}
 use lib.Seq.{sets, getD-take, length-take-le}
 use borrow.Author.Tests.{lt-ltb, le-ltb}
-use Rattle.ray_tracing.specs.Groups.{Slot, groupCount, groupOf, openGroup, slotsOf, slotRecords, Finding, fine, refused, judgeGroups, judgeOpening, Opening, opened, unopened, openRule, openingLeaves, OpensGroups}
+use Rattle.ray_tracing.specs.Groups.{Slot, groupCount, groupOf, openGroup, slotsOf, slotRecords, fine, refused, judgeGroups, judgeOpening, Opening, opened, unopened, openRule, openingLeaves, OpensGroups}
 use Rattle.ray_tracing.proofs.Groups.{judged-first}
 use Rattle.groups_judge.specs.Found.{Began}
 use Rattle.groups_judge.proofs.Laws.{fine-groups}

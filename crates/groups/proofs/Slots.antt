@@ -134,22 +134,18 @@ module _ (s : List ℕ) where
 
 -- ---- items copied one behind the other
 
--- the next item is n bytes of s
 pub put-next :
-    (s places out : List ℕ) (k n : ℕ)
+    (s places out : List ℕ) (k : ℕ)
     → k < length places
     → getD places k 0 + 56 ≤ length s
-    → n ≡ 56
-    → sets (sets out (k * 56) (take n (drop (getD places k 0) s))) ((k + 1) * 56) (itemsAt s (drop (k + 1) places)) ≡
+    → sets (sets out (k * 56) (take 56 (drop (getD places k 0) s))) ((k + 1) * 56) (itemsAt s (drop (k + 1) places)) ≡
     sets out (k * 56) (itemsAt s (drop k places))
 unfolding itemsAt flatten
-put-next s places out k n h w e =
-    let at = getD places k 0 in
-    let item = take 56 (drop at s) in
+put-next s places out k h w =
+    let item = take 56 (drop (getD places k 0) s) in
     let rest = itemsAt s (drop (k + 1) places) in
-    let next : (k + 1) * 56 ≡ k * 56 + length item = omega (arith, part-length s 56 at w) in
-    ap (λ (m : ℕ). sets (sets out (k * 56) (take m (drop at s))) ((k + 1) * 56) rest) e
-    ∙ ap (λ (m : ℕ). sets (sets out (k * 56) item) m rest) next
+    let next : (k + 1) * 56 ≡ k * 56 + length item = omega (arith, part-length s 56 (getD places k 0) w) in
+    ap (λ (m : ℕ). sets (sets out (k * 56) item) m rest) next
     ∙ sets-append item rest out (k * 56)
     ∙ ap (λ (m : ℕ). sets out (k * 56) (item ++ itemsAt s (drop m places))) (add-one k)
     ∙ ap (λ (l : List ℕ). sets out (k * 56) (itemsAt s l)) (sym (drop-cons places k 0 h))

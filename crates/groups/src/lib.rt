@@ -5,16 +5,28 @@ use groups_open::open_group;
 use ray_tracing::GroupsJudged;
 use ray_tracing::GroupsOpened;
 use ray_tracing::SLOT_SIZE;
-use wire::put_bytes;
+use wire::put_u64;
 use wire::u16_at;
+use wire::u64_at;
 ghost use mathlib.Core.Path.{_≡_};
-ghost use Prim.Native.Nat.{_*_, _≤_};
-ghost use lib.ListN.{length};
+ghost use Prim.Native.Nat.{_+_, _*_, _≤_};
+ghost use lib.ListN.{length, take, drop};
 ghost use lib.Seq.{sets};
 ghost use Rattle.ray_tracing.specs.Layout.{size};
 ghost use Rattle.ray_tracing.specs.Groups.{fine, judgeGroups, openingOf, OpensGroups};
 ghost use Rattle.groups_judge.specs.Found.{Began};
 ghost use Rattle.groups.specs.Items.{Within, itemsAt};
+
+fn put_slot(slots: &mut [u8], to: usize, groups: &[u8], at: usize)
+    requires { ⌜ (to + size 8 ≤ length (now slots)) × (at + size 8 ≤ length (now groups)) ⌝ }
+    ensures { λ _. ⌜ now (slots .exit) ≡ sets (now (slots .entry)) to (take (size 8) (drop at (now (groups .entry)))) ⌝ }
+{
+    let mut k = 0;
+    while k < 7 {
+        put_u64(slots, to + 8 * k, u64_at(groups, at + 8 * k));
+        k += 1;
+    }
+}
 
 // The items at these places, one behind the other: an item that is a slot has the bytes of a record of section 8.
 fn put_slots(groups: &[u8], places: &[usize], slots: &mut [u8])
@@ -25,8 +37,7 @@ fn put_slots(groups: &[u8], places: &[usize], slots: &mut [u8])
 {
     let mut k = 0;
     while k < places.len() {
-        let at = places[k];
-        put_bytes(slots, k * SLOT_SIZE, &groups[at..at + SLOT_SIZE]);
+        put_slot(slots, k * SLOT_SIZE, groups, places[k]);
         k += 1;
     }
 }

@@ -1,4 +1,3 @@
-pub mod Copying
 pub mod Records
 pub mod Counting
 pub mod Placing

@@ -1,17 +1,17 @@
 -- `groups::put_slots` meets its contract. The invariant: writing the items that are left, from place k on, gives what writing all was to give.
 use Prim.Native.Nat.{_+_, _-_, _*_, _≤_}
+use native.Mathlib.Omega.{arith}
 use mathlib.Core.Path.{_≡_, refl, sym, ap, _∙_}
 use lib.ListN.{length, getD, drop}
 use lib.Seq.{sets}
-use native.Mathlib.Omega.{arith}
 use Rattle.groups.specs.Items.{itemsAt}
-use Rattle.groups.proofs.Slots.{part-length, put-next, put-done}
+use Rattle.groups.proofs.Slots.{put-next, put-done}
+use borrow.Author.Needs.{needs}
 use Rattle.groups.proofs.put_slots.Statement.{statement}
 use Rattle.groups.proofs.put_slots.Tie as tie
 use Rattle.groups.proofs.put_slots.Reads as reads
 use Rattle.groups.proofs.put_slots.Lts as lts
-use Rattle.wire.proofs.put_bytes.Reads as put-bytes-reads
-use borrow.Author.Needs.{needs}
+use Rattle.groups.proofs.put_slot.Reads as put-slot-reads
 
 abbrev Inv-loop : tie.InvT-loop
 Inv-loop groups places slots₀ k₀ slots k =
@@ -27,39 +27,24 @@ loop-holds c = (refl, refl, search needs)
 
 -- the item at the next place is whole
 whole :
-    (c : lts.In-loop (put-bytes-reads.Asked, put-bytes-reads.Learnt) reads.Pre reads.Post Inv-loop μ-loop)
+    (c : lts.In-loop (put-slot-reads.Asked, put-slot-reads.Learnt) reads.Pre reads.Post Inv-loop μ-loop)
     → getD (c .before .before .before .before .before .args .places .now) (c .before .loop .k) 0 + 56
     ≤ length (c .before .before .before .before .before .args .groups .now)
 whole c = c .before .before .before .before .before .pre .0 (c .before .loop .k) (search needs)
 
-mul-at : tie.Need-mul-at Inv-loop μ-loop
-mul-at c = search needs
+mul-put-slot : tie.Need-mul-put-slot Inv-loop μ-loop
+mul-put-slot c = search needs
 
-shared-slice-read-at : tie.Need-shared-slice-read-at Inv-loop μ-loop
-shared-slice-read-at c = search needs
+mul-put-slot-2 : tie.Need-mul-put-slot-2 Inv-loop μ-loop
+mul-put-slot-2 c = search needs
 
-mul-put-bytes : tie.Need-mul-put-bytes Inv-loop μ-loop
-mul-put-bytes c = omega (arith, whole (c .before .before))
+shared-slice-read-put-slot : tie.Need-shared-slice-read-put-slot Inv-loop μ-loop
+shared-slice-read-put-slot c = search needs
 
-add-put-bytes : tie.Need-add-put-bytes Inv-loop μ-loop
-add-put-bytes c = omega (arith, whole (c .before .before))
-
-sub-put-bytes : tie.Need-sub-put-bytes Inv-loop μ-loop
-sub-put-bytes c = search needs
-
-part-put-bytes-start : tie.Need-part-put-bytes-start Inv-loop μ-loop
-part-put-bytes-start c = omega (arith, whole (c .before .before))
-
-part-put-bytes-end : tie.Need-part-put-bytes-end Inv-loop μ-loop
-part-put-bytes-end c = omega (arith, whole (c .before .before))
-
-put-bytes-requires : tie.Need-put-bytes-requires Inv-loop μ-loop
-put-bytes-requires c κs =
-    let a = c .before .before .before .before .before .before .before .before .args in
-    let k = c .before .before .before .before .loop .k in
-    let at = getD (a .places .now) k 0 in
-    let w = whole (c .before .before .before) in
-    omega (arith, part-length (a .groups .now) (at + 56 - at) at (omega (arith, w)))
+put-slot-requires : tie.Need-put-slot-requires Inv-loop μ-loop
+put-slot-requires c κs =
+    let start = c .before .before .before .before .before .before .before in
+    (omega (arith, c .before .before .before .loop .inv .1, start .pre .1), whole (c .before .before))
 
 add-k : tie.Need-add-k Inv-loop μ-loop
 add-k c = search needs
@@ -69,14 +54,13 @@ loop-less c = search needs
 
 loop-again : tie.Need-loop-again Inv-loop μ-loop
 loop-again c =
-    let a = c .before .before .before .before .before .before .before .before .before .before .before .args in
-    let l = c .before .before .before .before .before .before .before .loop in
-    let at = getD (a .places .now) (l .k) 0 in
-    let put = c .before .before .put-bytes in (
+    let a = c .before .before .before .before .before .before .before .before .before .before .args in
+    let l = c .before .before .before .before .before .before .loop in
+    let put = c .before .before .put-slot in (
       l .inv .0
           ∙ sym
           (ap (λ x. sets x ((l .k + 1) * 56) (itemsAt (a .groups .now) (drop (l .k + 1) (a .places .now)))) (put .ensures)
-          ∙ put-next (a .groups .now) (a .places .now) (l .slots) (l .k) (at + 56 - at) (search needs) (whole (c .before .before .before .before .before .before)) (omega arith)),
+          ∙ put-next (a .groups .now) (a .places .now) (l .slots) (l .k) (search needs) (whole (c .before .before .before .before .before))),
       put .kept .0 ∙ l .inv .1,
       search needs,
     )
@@ -97,14 +81,10 @@ put-slots-spec =
     Inv-loop
     μ-loop
     loop-holds
-    mul-at
-    shared-slice-read-at
-    mul-put-bytes
-    add-put-bytes
-    sub-put-bytes
-    part-put-bytes-start
-    part-put-bytes-end
-    put-bytes-requires
+    mul-put-slot
+    mul-put-slot-2
+    shared-slice-read-put-slot
+    put-slot-requires
     add-k
     loop-less
     loop-again
