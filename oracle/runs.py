@@ -21,7 +21,7 @@ def number(text):
 def compare(command, lines):
     out = ["## Against the Rust", "", f"`{command}`: " + re.sub(r", [\d.]+ s:", ":", lines[-1]) + "."]
     marks = "the Rust's own | a stand-in's | the paper's |"
-    rows = [re.fullmatch(r"  (sheet|build|submit|append) +(\d+) +(\d+) +(\d+) +(\d+)", line) for line in lines]
+    rows = [re.fullmatch(r"  (\w+) +(\d+) +(\d+) +(\d+) +(\d+)", line) for line in lines]
     parts = [re.fullmatch(r"  (.+?) +(\d+) +(\d+) +(\d+)", line) for line, row in zip(lines, rows) if not row]
     out += ["", f"| Call | No. | {marks}", "|---|---|---|---|---|"]
     out += ["| " + " | ".join((r[1], r[2], *map(number, r.groups()[2:]))) + " |" for r in rows if r]

@@ -1,5 +1,6 @@
--- What is claimed of groups that are judged fine: each opens to a slot at least, so that few calls reach the 513th; what is written is read
--- as slots; and where there is one group, what is written is the bytes that stand behind the two counts.
+-- What is claimed of groups that are judged fine, and of calls that are not refused: each group is its items opened in turn; each opens to a
+-- slot at least, so that few calls reach the 513th; where there is one group, what is written is the bytes behind the two counts; what is
+-- written is read as slots; a named group may as well be typed out.
 use Prim.Native.Nat.{ℕ, zero, suc, _+_, _-_, _≤_, _<_}
 use native.Mathlib.Nat.{add-zero, not-suc-le-zero}
 use native.Mathlib.Omega.{arith}
@@ -8,13 +9,14 @@ use mathlib.Core.Bool.{Bool, true, false, cond}
 use mathlib.Core.List.{List, [], _∷_, _++_, map, flatten, append-nil, append-assoc}
 use lib.Dec.{eqb}
 use lib.ListN.{length, drop, length-append, length-map, take-append-drop}
-use lib.Seq.{drop-drop, drop-length}
+use lib.Seq.{sets, drop-drop, drop-length}
 use borrow.Author.Tests.{eqb-true, eqb-false}
 use Rattle.wire.specs.Wire.{leAt}
 use Rattle.wire.proofs.Laws.{le-append-left, le-append-right, le-drop, le-take}
 use Rattle.ray_tracing.specs.Layout.{Seen, layout}
 use Rattle.ray_tracing.specs.Reading as reading
-use Rattle.ray_tracing.specs.Groups.{GroupItem, slot, named, Slot, itemOf, itemSize, itemsOf, pastItems, groupCount, groupAt, groupOf, openItem, openItems, openBelow, openGroup, slotsOf, slotRecord, slotRecords, fine, judgeItems, judgeGroups}
+use Rattle.ray_tracing.specs.Groups.{GroupItem, slot, named, Slot, itemOf, itemSize, itemsOf, pastItems, groupCount, groupAt, groupOf, openItem, openItems, openBelow, openGroup, slotsOf, slotRecord, slotRecords, Finding, fine, refused, judgeItems, judgeGroups, opened, OpensGroups}
+use Rattle.ray_tracing.proofs.Groups.{Earlier, opens-plainly, replaced, recordsIn, by-records, judged-first, opened-wrote}
 use Rattle.groups_judge.proofs.Laws.{size-slot, item-inside, item-earlier, items-first, items-next, FineGroup, fine-groups}
 use Rattle.groups_judge.proofs.Steps.{then-nothing, slot-there, slot-as-record}
 use Rattle.groups.proofs.Slots.{All, Stands, slots-stand, record-is, part-length}
@@ -24,6 +26,28 @@ abbrev itemBy : List ℕ → ℕ → ℕ → ℕ → Bool → GroupItem Slot
 itemBy s g i at b = cond b (slot (record { group = g; item = i; at = at })) (named (leAt 2 s (at + 1)))
 
 module _ (s : List ℕ) where
+  -- the groups that items name are before their own
+  items-name : (g n i at : ℕ) → judgeItems s g n i at ≡ fine → Earlier g (itemsOf s g n i at)
+  unfolding itemsOf itemOf
+  items-name g zero i at f = tt
+  items-name g (suc n) i at f =
+      go (eqb (leAt 1 s at) 1) refl (items-name g n (i + 1) (at + itemSize s at) (items-next s g n i at f))
+    where
+      go :
+          (b : Bool)
+          → eqb (leAt 1 s at) 1 ≡ b
+          → Earlier g (itemsOf s g n (i + 1) (at + itemSize s at))
+          → Earlier g (itemBy s g i at b ∷ itemsOf s g n (i + 1) (at + itemSize s at))
+      go true e rest = rest
+      go false e rest = (item-earlier s g i at (items-first s g n i at f) (eqb-false (leAt 1 s at) 1 e), rest)
+
+  -- "Opening a group and opening an item call on each other until only slots are left, in written order"
+  pub judged-plainly :
+      judgeGroups s ≡ fine → (g : ℕ) → g < groupCount s → openGroup (groupOf s) g ≡ openItems (openGroup (groupOf s)) (groupOf s g)
+  unfolding groupOf
+  judged-plainly f g l =
+      opens-plainly (groupOf s) g (items-name g (leAt 2 s (groupAt s g)) 0 (groupAt s g + 2) (fine-groups s f .groups g l .items))
+
   -- where every lower group has a slot, so have items
   items-some :
       (lower : ℕ → List Slot) (g n i at : ℕ)
@@ -180,3 +204,49 @@ unfolding slotRecords
 read-as-slots s f c =
     ap (reading.judgeRecords c (layout 8 .fields) (flatten (map (slotRecord s) (slotsOf s))) 0) (sym (length-map (slotsOf s) (slotRecord s)))
     ∙ records-read c (map (slotRecord s) (slotsOf s)) [] (stand-records s (slotsOf s) (slots-stand s f))
+
+-- ---- calls that are not refused
+
+module _ (s out : List ℕ) (m : ℕ) (p : List ℕ) (call : OpensGroups s out (opened m) p) where
+  pub opened-fine : judgeGroups s ≡ fine
+  opened-fine = go (judgeGroups s) refl
+    where
+      go : (j : Finding) → judgeGroups s ≡ j → j ≡ fine
+      go fine e = refl
+      go (refused n a g i) e =
+          let r = call .answer ∙ judged-first s (length out) n a g i e in
+          let z : _≡_ {A = ℕ} 0 1 = cc in
+          absurd (omega arith)
+
+  -- "The last group is the house": its slots are what it wrote, and by plain recursion they are its items opened, each by opening the group
+  -- that it names
+  pub opens-the-last :
+      (p ≡ sets out 0 (flatten (map (slotRecord s) (openGroup (groupOf s) (groupCount s - 1)))))
+      × ((g : ℕ) → g < groupCount s → openGroup (groupOf s) g ≡ openItems (openGroup (groupOf s)) (groupOf s g))
+  unfolding slotRecords slotsOf
+  opens-the-last = (opened-wrote s out m p call .1, judged-plainly s opened-fine)
+
+-- "A house of 512 slots is four bays of the same rows, typed out": two calls on groups that are the same but for a named group that the
+-- second types out wrote the same
+pub opens-the-same :
+    (s t : List ℕ) (g h : ℕ) (xs ys : List (GroupItem (List ℕ)))
+    → h < g
+    → recordsIn s g ≡ xs ++ (named h ∷ ys)
+    → recordsIn t g ≡ xs ++ (map slot (openGroup (recordsIn s) h) ++ ys)
+    → ((k : ℕ) → k < groupCount s → (k ≡ g → ⊥) → recordsIn t k ≡ recordsIn s k)
+    → groupCount t ≡ groupCount s
+    → (out : List ℕ) (m n : ℕ) (p q : List ℕ)
+    → OpensGroups s out (opened m) p
+    → OpensGroups t out (opened n) q
+    → (m ≡ n) × (p ≡ q)
+opens-the-same s t g h xs ys earlier named-there typed-out others same out m n p q a b =
+    let some = fine-groups s (opened-fine s out m p a) .some in
+    let records : slotRecords s ≡ slotRecords t =
+    by-records s
+    ∙ ap flatten
+    (sym (replaced (recordsIn s) (recordsIn t) (groupCount s) g h xs ys earlier named-there typed-out others (groupCount s - 1) (omega (arith, some)))
+    ∙ ap (λ (k : ℕ). openGroup (recordsIn t) (k - 1)) (sym same))
+    ∙ sym (by-records t) in
+    let u = opened-wrote s out m p a in
+    let v = opened-wrote t out n q b in
+    (u .0 ∙ ap length records ∙ sym (v .0), u .1 ∙ ap (sets out 0) records ∙ sym (v .1))

@@ -1,6 +1,6 @@
 -- What is claimed of opened groups: the definition is the plain recursion; slots alone are what is written; a named group may as well be
 -- typed out. Over any kind of slot: where it is written, or its bytes.
-use Prim.Native.Nat.{ℕ, zero, suc, _-_, _<_}
+use Prim.Native.Nat.{ℕ, zero, suc, _-_, _<_, _≤_}
 use native.Mathlib.Nat.{not-suc-le-zero}
 use native.Mathlib.Omega.{arith}
 use mathlib.Core.Path.{_≡_, refl, sym, ap, _∙_}
@@ -60,10 +60,10 @@ module _ {A : Type 0} where
   unfolding openGroup
   slots-only c g xs e = ap (openItems (openBelow c g)) e ∙ only-slots (openBelow c g) xs
 
-  -- "replacing a named group by its items opened gives the same slots": in group g, of all groups
-  module _ (c d : ℕ → List (GroupItem A)) (g h : ℕ) (xs ys : List (GroupItem A)) (earlier : h < g)
+  -- "replacing a named group by its items opened gives the same slots": in group g, of the groups before `top`
+  module _ (c d : ℕ → List (GroupItem A)) (top g h : ℕ) (xs ys : List (GroupItem A)) (earlier : h < g)
       (named-there : c g ≡ xs ++ (named h ∷ ys)) (typed-out : d g ≡ xs ++ (map slot (openGroup c h) ++ ys))
-      (others : (k : ℕ) → (k ≡ g → ⊥) → d k ≡ c k) where
+      (others : (k : ℕ) → k < top → (k ≡ g → ⊥) → d k ≡ c k) where
     here : (lower : ℕ → List A) → lower h ≡ openGroup c h → openItems lower (d g) ≡ openItems lower (c g)
     unfolding openItems openItem
     here lower e =
@@ -75,32 +75,33 @@ module _ {A : Type 0} where
         ∙ sym (items-append lower xs (named h ∷ ys))
         ∙ ap (openItems lower) (sym named-there)
 
-    group-kept : (lower : ℕ → List A) (k : ℕ) → (k ≡ g → lower h ≡ openGroup c h) → openItems lower (d k) ≡ openItems lower (c k)
-    group-kept lower k e = go (eqb k g) refl
+    group-kept :
+        (lower : ℕ → List A) (k : ℕ) → k < top → (k ≡ g → lower h ≡ openGroup c h) → openItems lower (d k) ≡ openItems lower (c k)
+    group-kept lower k l e = go (eqb k g) refl
       where
         go : (b : Bool) → eqb k g ≡ b → openItems lower (d k) ≡ openItems lower (c k)
         go true p =
             let q = eqb-true k g p in
             ap (λ (j : ℕ). openItems lower (d j)) q ∙ here lower (e q) ∙ ap (λ (j : ℕ). openItems lower (c j)) (sym q)
-        go false p = ap (openItems lower) (others k (eqb-false k g p))
+        go false p = ap (openItems lower) (others k l (eqb-false k g p))
 
-    below-kept : (n : ℕ) → openBelow d n ≡ openBelow c n
+    below-kept : (n : ℕ) → n ≤ top → openBelow d n ≡ openBelow c n
     unfolding openBelow
-    below-kept zero = refl
-    below-kept (suc n) = go (below-kept n)
+    below-kept zero l = refl
+    below-kept (suc n) l = go (below-kept n (omega (arith, l)))
       where
         go : openBelow d n ≡ openBelow c n → openBelow d (suc n) ≡ openBelow c (suc n)
         go rec =
             let items : openItems (openBelow d n) (d n) ≡ openItems (openBelow c n) (c n) =
-            ap (λ (l : ℕ → List A). openItems l (d n)) rec
-            ∙ group-kept (openBelow c n) n (λ e. below-is c n h (omega (arith, e))) in
+            ap (λ (r : ℕ → List A). openItems r (d n)) rec
+            ∙ group-kept (openBelow c n) n (omega (arith, l)) (λ e. below-is c n h (omega (arith, e))) in
             λ i k. cond (eqb k n) (items i) (rec i k)
 
-    pub replaced : (k : ℕ) → openGroup d k ≡ openGroup c k
+    pub replaced : (k : ℕ) → k < top → openGroup d k ≡ openGroup c k
     unfolding openGroup
-    replaced k =
-        ap (λ (l : ℕ → List A). openItems l (d k)) (below-kept k)
-        ∙ group-kept (openBelow c k) k (λ e. below-is c k h (omega (arith, e)))
+    replaced k l =
+        ap (λ (r : ℕ → List A). openItems r (d k)) (below-kept k (omega (arith, l)))
+        ∙ group-kept (openBelow c k) k l (λ e. below-is c k h (omega (arith, e)))
 
 -- an item with its slot seen otherwise
 abbrev pub itemWith : {A B : Type 0} → (A → B) → GroupItem A → GroupItem B
@@ -167,29 +168,6 @@ module _ (s out : List ℕ) (m : ℕ) (p : List ℕ) where
           → (m ≡ length (slotRecords s)) × (p ≡ sets out 0 (slotRecords s))
       go fine e l = (let q : m ≡ length (slotRecords s) = cc in q, l)
       go (refused n a g i) e l = let z : _≡_ {A = ℕ} 0 1 = cc in absurd (omega arith)
-
--- two calls on groups that are the same but for a named group that the second types out: both wrote the same
-pub opens-the-same :
-    (s t : List ℕ) (g h : ℕ) (xs ys : List (GroupItem (List ℕ)))
-    → h < g
-    → recordsIn s g ≡ xs ++ (named h ∷ ys)
-    → recordsIn t g ≡ xs ++ (map slot (openGroup (recordsIn s) h) ++ ys)
-    → ((k : ℕ) → (k ≡ g → ⊥) → recordsIn t k ≡ recordsIn s k)
-    → groupCount t ≡ groupCount s
-    → (out : List ℕ) (m n : ℕ) (p q : List ℕ)
-    → OpensGroups s out (opened m) p
-    → OpensGroups t out (opened n) q
-    → (m ≡ n) × (p ≡ q)
-opens-the-same s t g h xs ys earlier named-there typed-out others same out m n p q a b =
-    let records : slotRecords s ≡ slotRecords t =
-    by-records s
-    ∙ ap flatten
-    (sym (replaced (recordsIn s) (recordsIn t) g h xs ys earlier named-there typed-out others (groupCount s - 1))
-    ∙ ap (λ (k : ℕ). openGroup (recordsIn t) (k - 1)) (sym same))
-    ∙ sym (by-records t) in
-    let u = opened-wrote s out m p a in
-    let v = opened-wrote t out n q b in
-    (u .0 ∙ ap length records ∙ sym (v .0), u .1 ∙ ap (sets out 0) records ∙ sym (v .1))
 
 -- "A house of 512 slots is four bays of the same rows, typed out": two slots, and a group that names them twice with a slot between
 module _ where
