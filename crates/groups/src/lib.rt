@@ -4,6 +4,8 @@ use groups_open::Opened;
 use groups_open::open_group;
 use ray_tracing::GroupsJudged;
 use ray_tracing::GroupsOpened;
+use ray_tracing::MOST_GROUPS;
+use ray_tracing::MOST_SLOTS;
 use ray_tracing::SLOT_SIZE;
 use wire::put_u64;
 use wire::u16_at;
@@ -48,7 +50,7 @@ fn open_judged(groups: &[u8], starts: &[usize], slots: &mut [u8]) -> GroupsOpene
     ensures { λ r. ⌜ OpensGroups (now (groups .entry)) (now (slots .entry)) (openingOf r) (now (slots .exit)) ⌝ }
 {
     let count = u16_at(groups, 0) as usize;
-    let mut places = [0usize; 512];
+    let mut places = [0usize; MOST_SLOTS];
     let opened = open_group(groups, &starts[..count], count - 1, &mut places, 0);
     match opened {
         Opened::Full(group, item) => GroupsOpened::TooManySlots(group, item),
@@ -65,7 +67,7 @@ fn open_judged(groups: &[u8], starts: &[usize], slots: &mut [u8]) -> GroupsOpene
 pub fn open_groups(groups: &[u8], slots: &mut [u8]) -> GroupsOpened
     ensures { λ r. ⌜ OpensGroups (now (groups .entry)) (now (slots .entry)) (openingOf r) (now (slots .exit)) ⌝ }
 {
-    let mut starts = [0usize; 64];
+    let mut starts = [0usize; MOST_GROUPS];
     let judged = judge_groups(groups, &mut starts);
     match judged {
         GroupsJudged::Refused(e, place) => GroupsOpened::Refused(e, place),
