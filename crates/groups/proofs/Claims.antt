@@ -16,80 +16,53 @@ use Rattle.wire.proofs.Laws.{le-append-left, le-append-right, le-drop, le-take}
 use Rattle.ray_tracing.specs.Layout.{Seen, layout}
 use Rattle.ray_tracing.specs.Reading as reading
 use Rattle.ray_tracing.specs.Groups.{GroupItem, slot, named, Slot, itemOf, itemSize, itemsOf, pastItems, groupCount, groupAt, groupOf, openItem, openItems, openBelow, openGroup, slotsOf, slotRecord, slotRecords, Finding, fine, refused, judgeItems, judgeGroups, opened, OpensGroups}
-use Rattle.ray_tracing.proofs.Groups.{Earlier, opens-plainly, replaced, recordsIn, by-records, judged-first, opened-wrote}
-use Rattle.groups_judge.proofs.Laws.{size-slot, item-inside, item-earlier, items-first, items-next, FineGroup, fine-groups}
+use Rattle.ray_tracing.specs.Claim.{Each}
+use Rattle.ray_tracing.proofs.Groups.{opens-plainly, replaced, recordsIn, by-records, judged-first, opened-wrote}
+use Rattle.groups_judge.proofs.Laws.{size-slot, item-inside, item-earlier, items-first, items-next, fine-groups}
 use Rattle.groups_judge.proofs.Steps.{then-nothing, slot-there, slot-as-record}
-use Rattle.groups.proofs.Slots.{All, Stands, slots-stand, record-is, part-length}
-
--- an item is a slot or names a group
-abbrev itemBy : List ℕ → ℕ → ℕ → ℕ → Bool → GroupItem Slot
-itemBy s g i at b = cond b (slot (record { group = g; item = i; at = at })) (named (leAt 2 s (at + 1)))
+use Rattle.groups.proofs.Slots.{Stands, itemBy, Judged, group-judged, slots-stand, record-is, part-length}
 
 module _ (s : List ℕ) where
-  -- the groups that items name are before their own
-  items-name : (g n i at : ℕ) → judgeItems s g n i at ≡ fine → Earlier g (itemsOf s g n i at)
-  unfolding itemsOf itemOf
-  items-name g zero i at f = tt
-  items-name g (suc n) i at f =
-      go (eqb (leAt 1 s at) 1) refl (items-name g n (i + 1) (at + itemSize s at) (items-next s g n i at f))
-    where
-      go :
-          (b : Bool)
-          → eqb (leAt 1 s at) 1 ≡ b
-          → Earlier g (itemsOf s g n (i + 1) (at + itemSize s at))
-          → Earlier g (itemBy s g i at b ∷ itemsOf s g n (i + 1) (at + itemSize s at))
-      go true e rest = rest
-      go false e rest = (item-earlier s g i at (items-first s g n i at f) (eqb-false (leAt 1 s at) 1 e), rest)
-
   -- "Opening a group and opening an item call on each other until only slots are left, in written order"
   pub judged-plainly :
       judgeGroups s ≡ fine → (g : ℕ) → g < groupCount s → openGroup (groupOf s) g ≡ openItems (openGroup (groupOf s)) (groupOf s g)
-  unfolding groupOf
-  judged-plainly f g l =
-      opens-plainly (groupOf s) g (items-name g (leAt 2 s (groupAt s g)) 0 (groupAt s g + 2) (fine-groups s f .groups g l .items))
+  judged-plainly f g l = opens-plainly (groupOf s) (λ (x : Slot). Stands s (x .at)) g (group-judged s f g l)
 
   -- where every lower group has a slot, so have items
   items-some :
-      (lower : ℕ → List Slot) (g n i at : ℕ)
-      → judgeItems s g (suc n) i at ≡ fine
+      (lower : ℕ → List Slot) (g : ℕ) (xs : List (GroupItem Slot))
+      → 1 ≤ length xs
+      → Judged s g xs
       → ((h : ℕ) → h < g → 1 ≤ length (lower h))
-      → 1 ≤ length (openItems lower (itemsOf s g (suc n) i at))
-  unfolding openItems openItem itemsOf itemOf
-  items-some lower g n i at f some = go (eqb (leAt 1 s at) 1) refl
-    where
-      go :
-          (b : Bool)
-          → eqb (leAt 1 s at) 1 ≡ b
-          → 1 ≤ length (openItem lower (itemBy s g i at b) ++ openItems lower (itemsOf s g n (i + 1) (at + itemSize s at)))
-      go true e = omega arith
-      go false e =
-          let h = leAt 2 s (at + 1) in
-          let l = some h (item-earlier s g i at (items-first s g n i at f) (eqb-false (leAt 1 s at) 1 e)) in
-          omega (arith, length-append (lower h) (openItems lower (itemsOf s g n (i + 1) (at + itemSize s at))))
+      → 1 ≤ length (openItems lower xs)
+  unfolding openItems openItem
+  items-some lower g [] l e some = absurd (omega (arith, l))
+  items-some lower g (slot x ∷ xs) l e some = omega arith
+  items-some lower g (named h ∷ xs) l e some = omega (arith, some h (e .0), length-append (lower h) (openItems lower xs))
 
-  group-some :
-      (lower : ℕ → List Slot) (g : ℕ)
-      → FineGroup s g (groupAt s g)
-      → ((h : ℕ) → h < g → 1 ≤ length (lower h))
-      → 1 ≤ length (openItems lower (groupOf s g))
-  unfolding groupOf
-  group-some lower g f some = go (leAt 2 s (groupAt s g)) (f .some) (f .items)
-    where
-      go :
-          (n : ℕ)
-          → 1 ≤ n
-          → judgeItems s g n 0 (groupAt s g + 2) ≡ fine
-          → 1 ≤ length (openItems lower (itemsOf s g n 0 (groupAt s g + 2)))
-      go zero h e = absurd (omega (arith, h))
-      go (suc n) h e = items-some lower g n 0 (groupAt s g + 2) e some
+  items-there : (g n i at : ℕ) → 1 ≤ n → 1 ≤ length (itemsOf s g n i at)
+  unfolding itemsOf
+  items-there g zero i at l = absurd (omega (arith, l))
+  items-there g (suc n) i at l = omega arith
 
   module _ (f : judgeGroups s ≡ fine) where
+    group-some :
+        (lower : ℕ → List Slot) (g : ℕ)
+        → g < groupCount s
+        → ((h : ℕ) → h < g → 1 ≤ length (lower h))
+        → 1 ≤ length (openItems lower (groupOf s g))
+    unfolding groupOf
+    group-some lower g l some =
+        items-some lower g (groupOf s g)
+        (items-there g (leAt 2 s (groupAt s g)) 0 (groupAt s g + 2) (fine-groups s f .groups g l .some))
+        (group-judged s f g l) some
+
     below-some : (n : ℕ) → n ≤ groupCount s → (h : ℕ) → h < n → 1 ≤ length (openBelow (groupOf s) n h)
     unfolding openBelow
     below-some zero l h k = absurd (not-suc-le-zero k)
     below-some (suc n) l h k =
         let some = below-some n (omega (arith, l)) in
-        go (eqb h n) refl (group-some (openBelow (groupOf s) n) n (fine-groups s f .groups n (omega (arith, l))) some) (some h)
+        go (eqb h n) refl (group-some (openBelow (groupOf s) n) n (omega (arith, l)) some) (some h)
       where
         go :
             (b : Bool)
@@ -104,7 +77,7 @@ module _ (s : List ℕ) where
     pub each-opens : (g : ℕ) → g < groupCount s → 1 ≤ length (openGroup (groupOf s) g)
     unfolding openGroup
     each-opens g l =
-        group-some (openBelow (groupOf s) g) g (fine-groups s f .groups g l) (below-some g (omega (arith, l)))
+        group-some (openBelow (groupOf s) g) g l (below-some g (omega (arith, l)))
 
   -- the items of the first group are slots, and their records are the bytes that stand there
   first-items :
@@ -165,7 +138,7 @@ record-read c u at h e =
 
 records-read :
     (c : Seen) (rs : List (List ℕ)) (front : List ℕ)
-    → All Record rs
+    → Each Record rs
     → reading.judgeRecords c (layout 8 .fields) (front ++ flatten rs) (length front) (length rs) ≡ reading.fine
 unfolding reading.judgeRecords flatten
 records-read c [] front t = refl
@@ -184,7 +157,7 @@ records-read c (r ∷ rs) front t =
     ∙ ap (λ (n : ℕ). reading.judgeRecords c (layout 8 .fields) ((front ++ r) ++ flatten rs) n (length rs)) (sym past)
     ∙ records-read c rs (front ++ r) (t .1))
 
-stand-records : (s : List ℕ) (xs : List Slot) → All (λ (x : Slot). Stands s (x .at)) xs → All Record (map (slotRecord s) xs)
+stand-records : (s : List ℕ) (xs : List Slot) → Each (λ (x : Slot). Stands s (x .at)) xs → Each Record (map (slotRecord s) xs)
 stand-records s [] t = tt
 stand-records s (x ∷ xs) t =
     let e = record-is s x (t .0) in (

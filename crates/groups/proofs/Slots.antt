@@ -9,55 +9,48 @@ use mathlib.Core.List.{List, [], _∷_, _++_, map, flatten}
 use lib.Dec.{eqb}
 use lib.ListN.{length, getD, take, drop, length-append, length-drop, drop-of-length-le}
 use lib.Seq.{sets, drop-cons, length-take-le}
-use borrow.Author.Tests.{eqb-true}
+use borrow.Author.Tests.{eqb-true, eqb-false}
 use Rattle.wire.specs.Wire.{leAt}
 use Rattle.wire.proofs.Laws.{sets-append}
 use Rattle.ray_tracing.specs.Groups.{GroupItem, slot, named, Slot, itemOf, itemSize, itemsOf, groupCount, groupAt, groupOf, openItem, openItems, openBelow, openGroup, slotsOf, slotRecord, fine, judgeItems, judgeGroups}
-use Rattle.groups_judge.proofs.Laws.{size-slot, item-inside, items-first, items-next, fine-groups}
+use Rattle.ray_tracing.specs.Claim.{Each}
+use Rattle.ray_tracing.proofs.Groups.{FineItems}
+use Rattle.groups_judge.proofs.Laws.{size-slot, item-inside, item-earlier, items-first, items-next, fine-groups}
 use Rattle.groups.specs.Items.{itemsAt, Within}
 
 -- ---- what holds of every slot that is written holds of every slot that is opened
 
-abbrev pub All : {A : Type 0} → (A → Type 0) → List A → Type 0
-All P [] = Unit
-All P (x ∷ xs) = P x × All P xs
-
--- of items, those that are slots
-abbrev pub Each : {A : Type 0} → (A → Type 0) → List (GroupItem A) → Type 0
-Each P [] = Unit
-Each P (slot x ∷ xs) = P x × Each P xs
-Each P (named h ∷ xs) = Each P xs
-
 module _ {A : Type 0} (P : A → Type 0) where
-  all-append : (xs ys : List A) → All P xs → All P ys → All P (xs ++ ys)
-  all-append [] ys a b = b
-  all-append (x ∷ xs) ys a b = (a .0, all-append xs ys (a .1) b)
+  each-append : (xs ys : List A) → Each P xs → Each P ys → Each P (xs ++ ys)
+  each-append [] ys a b = b
+  each-append (x ∷ xs) ys a b = (a .0, each-append xs ys (a .1) b)
 
-  items-all : (lower : ℕ → List A) → ((h : ℕ) → All P (lower h)) → (xs : List (GroupItem A)) → Each P xs → All P (openItems lower xs)
+  items-each :
+      (lower : ℕ → List A) → ((h : ℕ) → Each P (lower h)) → (g : ℕ) (xs : List (GroupItem A)) → FineItems P g xs → Each P (openItems lower xs)
   unfolding openItems openItem
-  items-all lower l [] e = tt
-  items-all lower l (slot x ∷ xs) e = (e .0, items-all lower l xs (e .1))
-  items-all lower l (named h ∷ xs) e = all-append (lower h) (openItems lower xs) (l h) (items-all lower l xs e)
+  items-each lower l g [] e = tt
+  items-each lower l g (slot x ∷ xs) e = (e .0, items-each lower l g xs (e .1))
+  items-each lower l g (named h ∷ xs) e = each-append (lower h) (openItems lower xs) (l h) (items-each lower l g xs (e .1))
 
   module _ (c : ℕ → List (GroupItem A)) where
-    below-all : (n : ℕ) → ((g : ℕ) → g < n → Each P (c g)) → (h : ℕ) → All P (openBelow c n h)
+    below-each : (n : ℕ) → ((g : ℕ) → g < n → FineItems P g (c g)) → (h : ℕ) → Each P (openBelow c n h)
     unfolding openBelow
-    below-all zero e h = tt
-    below-all (suc n) e h =
-        go (eqb h n) (items-all (openBelow c n) (below-all n (λ g l. e g (omega arith))) (c n) (e n (omega arith)))
-        (below-all n (λ g l. e g (omega arith)) h)
+    below-each zero e h = tt
+    below-each (suc n) e h =
+        go (eqb h n) (items-each (openBelow c n) (below-each n (λ g l. e g (omega arith))) n (c n) (e n (omega arith)))
+        (below-each n (λ g l. e g (omega arith)) h)
       where
         go :
             (b : Bool)
-            → All P (openItems (openBelow c n) (c n))
-            → All P (openBelow c n h)
-            → All P (cond b (openItems (openBelow c n) (c n)) (openBelow c n h))
+            → Each P (openItems (openBelow c n) (c n))
+            → Each P (openBelow c n h)
+            → Each P (cond b (openItems (openBelow c n) (c n)) (openBelow c n h))
         go true x y = x
         go false x y = y
 
-    pub group-all : (g : ℕ) → ((k : ℕ) → k ≤ g → Each P (c k)) → All P (openGroup c g)
+    pub group-each : (g : ℕ) → ((k : ℕ) → k ≤ g → FineItems P k (c k)) → Each P (openGroup c g)
     unfolding openGroup
-    group-all g e = items-all (openBelow c g) (below-all g (λ k l. e k (omega arith))) (c g) (e g (omega arith))
+    group-each g e = items-each (openBelow c g) (below-each g (λ k l. e k (omega arith))) g (c g) (e g (omega arith))
 
 -- ---- a slot's item
 
@@ -66,31 +59,41 @@ pub record Stands (s : List ℕ) (at : ℕ) : Type 0 where
   pub byte : leAt 1 s at ≡ 1
   pub whole : at + 56 ≤ length s
 
+-- an item is a slot or names a group
+abbrev pub itemBy : List ℕ → ℕ → ℕ → ℕ → Bool → GroupItem Slot
+itemBy s g i at b = cond b (slot (record { group = g; item = i; at = at })) (named (leAt 2 s (at + 1)))
+
 module _ (s : List ℕ) where
-  items-stand :
-      (g n i at : ℕ) → judgeItems s g n i at ≡ fine → Each (λ (x : Slot). Stands s (x .at)) (itemsOf s g n i at)
+  -- what judging says of the items of a group
+  abbrev pub Judged : ℕ → List (GroupItem Slot) → Type 0
+  Judged g xs = FineItems (λ (x : Slot). Stands s (x .at)) g xs
+
+  items-judged : (g n i at : ℕ) → judgeItems s g n i at ≡ fine → Judged g (itemsOf s g n i at)
   unfolding itemsOf itemOf
-  items-stand g zero i at f = tt
-  items-stand g (suc n) i at f =
-      go (eqb (leAt 1 s at) 1) refl (items-stand g n (i + 1) (at + itemSize s at) (items-next s g n i at f))
+  items-judged g zero i at f = tt
+  items-judged g (suc n) i at f =
+      go (eqb (leAt 1 s at) 1) refl (items-judged g n (i + 1) (at + itemSize s at) (items-next s g n i at f))
     where
       go :
           (b : Bool)
           → eqb (leAt 1 s at) 1 ≡ b
-          → Each (λ (x : Slot). Stands s (x .at)) (itemsOf s g n (i + 1) (at + itemSize s at))
-          → Each (λ (x : Slot). Stands s (x .at)) (cond b (slot (record { group = g; item = i; at = at })) (named (leAt 2 s (at + 1))) ∷ itemsOf s g n (i + 1) (at + itemSize s at))
+          → Judged g (itemsOf s g n (i + 1) (at + itemSize s at))
+          → Judged g (itemBy s g i at b ∷ itemsOf s g n (i + 1) (at + itemSize s at))
       go true e rest =
           let one = eqb-true (leAt 1 s at) 1 e in
           let w = item-inside s g i at (items-first s g n i at f) in
           (record { byte = one; whole = omega (arith, w, size-slot s at one) }, rest)
-      go false e rest = rest
+      go false e rest = (item-earlier s g i at (items-first s g n i at f) (eqb-false (leAt 1 s at) 1 e), rest)
 
-  pub slots-stand : judgeGroups s ≡ fine → All (λ (x : Slot). Stands s (x .at)) (slotsOf s)
-  unfolding slotsOf groupOf
+  pub group-judged : judgeGroups s ≡ fine → (g : ℕ) → g < groupCount s → Judged g (groupOf s g)
+  unfolding groupOf
+  group-judged f g l = items-judged g (leAt 2 s (groupAt s g)) 0 (groupAt s g + 2) (fine-groups s f .groups g l .items)
+
+  pub slots-stand : judgeGroups s ≡ fine → Each (λ (x : Slot). Stands s (x .at)) (slotsOf s)
+  unfolding slotsOf
   slots-stand f =
-      let w = fine-groups s f in
-      group-all (λ (x : Slot). Stands s (x .at)) (groupOf s) (groupCount s - 1)
-      (λ k l. let g = w .groups k (omega (arith, w .some)) in items-stand k (leAt 2 s (groupAt s k)) 0 (groupAt s k + 2) (g .items))
+      group-each (λ (x : Slot). Stands s (x .at)) (groupOf s) (groupCount s - 1)
+      (λ k l. group-judged f k (omega (arith, fine-groups s f .some)))
 
   -- the record is the item's bytes
   pub record-is : (x : Slot) → Stands s (x .at) → slotRecord s x ≡ take 56 (drop (x .at) s)
@@ -106,7 +109,7 @@ module _ (s : List ℕ) where
 
   pub records-are :
       (xs : List Slot)
-      → All (λ (x : Slot). Stands s (x .at)) xs
+      → Each (λ (x : Slot). Stands s (x .at)) xs
       → flatten (map (slotRecord s) xs) ≡ itemsAt s (map (λ (x : Slot). x .at) xs)
   unfolding itemsAt flatten
   records-are [] t = refl
@@ -114,7 +117,7 @@ module _ (s : List ℕ) where
 
   pub records-length :
       (xs : List Slot)
-      → All (λ (x : Slot). Stands s (x .at)) xs
+      → Each (λ (x : Slot). Stands s (x .at)) xs
       → length (flatten (map (slotRecord s) xs)) ≡ length xs * 56
   unfolding flatten
   records-length [] t = refl
@@ -127,7 +130,7 @@ module _ (s : List ℕ) where
         suc-mul (length xs) 56,
       )
 
-  pub within : (xs : List Slot) → All (λ (x : Slot). Stands s (x .at)) xs → Within s (map (λ (x : Slot). x .at) xs)
+  pub within : (xs : List Slot) → Each (λ (x : Slot). Stands s (x .at)) xs → Within s (map (λ (x : Slot). x .at) xs)
   within [] t k h = absurd (omega (arith, h))
   within (x ∷ xs) t zero h = t .0 .whole
   within (x ∷ xs) t (suc k) h = within xs (t .1) k (omega (arith, h))

@@ -22,11 +22,11 @@ module _ {A : Type 0} where
   items-append lower (x ∷ xs) ys =
       ap (λ (l : List A). openItem lower x ++ l) (items-append lower xs ys) ∙ sym (append-assoc (openItem lower x) (openItems lower xs) (openItems lower ys))
 
-  -- each group that these items name is before group g
-  abbrev pub Earlier : ℕ → List (GroupItem A) → Type 0
-  Earlier g [] = Unit
-  Earlier g (slot x ∷ xs) = Earlier g xs
-  Earlier g (named h ∷ xs) = (h < g) × Earlier g xs
+  -- items of group g: each slot is as P has it, and each group that they name is before group g
+  abbrev pub FineItems : (A → Type 0) → ℕ → List (GroupItem A) → Type 0
+  FineItems P g [] = Unit
+  FineItems P g (slot x ∷ xs) = P x × FineItems P g xs
+  FineItems P g (named h ∷ xs) = (h < g) × FineItems P g xs
 
   module _ (c : ℕ → List (GroupItem A)) where
     -- how many groups there are below a number does not matter to those that are
@@ -39,16 +39,17 @@ module _ {A : Type 0} where
         go true p rec = ap (λ (k : ℕ). openItems (openBelow c k) (c k)) (sym (eqb-true h g p))
         go false p rec = let d = eqb-false h g p in rec (omega arith)
 
-    items-earlier : (g : ℕ) (xs : List (GroupItem A)) → Earlier g xs → openItems (openBelow c g) xs ≡ openItems (openGroup c) xs
+    items-earlier :
+        (P : A → Type 0) (g : ℕ) (xs : List (GroupItem A)) → FineItems P g xs → openItems (openBelow c g) xs ≡ openItems (openGroup c) xs
     unfolding openItems openItem
-    items-earlier g [] e = refl
-    items-earlier g (slot x ∷ xs) e = ap (λ (l : List A). x ∷ l) (items-earlier g xs e)
-    items-earlier g (named h ∷ xs) e = λ i. below-is g h (e .0) i ++ items-earlier g xs (e .1) i
+    items-earlier P g [] e = refl
+    items-earlier P g (slot x ∷ xs) e = ap (λ (l : List A). x ∷ l) (items-earlier P g xs (e .1))
+    items-earlier P g (named h ∷ xs) e = λ i. below-is g h (e .0) i ++ items-earlier P g xs (e .1) i
 
     -- "Opening a group and opening an item call on each other": a group is its items opened, each by opening the group that it names
-    pub opens-plainly : (g : ℕ) → Earlier g (c g) → openGroup c g ≡ openItems (openGroup c) (c g)
+    pub opens-plainly : (P : A → Type 0) (g : ℕ) → FineItems P g (c g) → openGroup c g ≡ openItems (openGroup c) (c g)
     unfolding openGroup
-    opens-plainly g e = items-earlier g (c g) e
+    opens-plainly P g e = items-earlier P g (c g) e
 
   -- "a card of one group with slots only gives those slots": any group
   only-slots : (lower : ℕ → List A) (xs : List A) → openItems lower (map slot xs) ≡ xs
