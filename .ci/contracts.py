@@ -15,6 +15,7 @@ ENTRY = {
     "submit": "submit",
     "validate_acceleration_structure_actions": "submit",
     "append_instance": "instance",
+    "append_instances": "instance_many",
     "report": "report",
     "explain": "explain",
 }

@@ -420,18 +420,26 @@ fn build_row(name: &str, what: &str, shape: &Shape) -> Row {
     Row { name: name.into(), what: what.into(), rust, made, ours }
 }
 
+/// The slots' fields after their present byte.
+fn lent_instances(slots: &[u8]) -> Vec<[u8; 55]> {
+    slots.chunks_exact(56).map(|r| r[1..].try_into().unwrap()).collect()
+}
+
+/// Appended one by one: how many bytes are in use then.
+fn append_each(t: &[Vec<u8>], instances: &[[u8; 55]], out: &mut [u8]) -> u64 {
+    let mut used = 0;
+    for i in instances {
+        used = zakvind::raw::append_instance(&t[TLASES], &t[BLASES], 0, i, out, used).used;
+    }
+    used
+}
+
 /// The same slots appended one by one, and as plain memory copies of 64 bytes each.
 fn append_rows() -> (Row, f64) {
     let t = tables(&only_slots(512)).tables();
-    let instances: Vec<[u8; 55]> = t[SLOTS].chunks_exact(56).map(|r| r[1..].try_into().unwrap()).collect();
+    let instances = lent_instances(&t[SLOTS]);
     let mut out = vec![1u8; 64 * 512];
-    let append = |out: &mut [u8]| {
-        let mut used = 0;
-        for i in &instances {
-            used = zakvind::raw::append_instance(&t[TLASES], &t[BLASES], 0, i, out, used).used;
-        }
-        used
-    };
+    let append = |out: &mut [u8]| append_each(&t, &instances, out);
     assert_eq!(append(&mut out), 64 * 512);
     let source = out.clone();
     let mut target = vec![1u8; 64 * 512];
@@ -448,6 +456,42 @@ fn append_rows() -> (Row, f64) {
         &mut || {},
     );
     (Row { name: "append-512".into(), what: "512 instances appended one by one".into(), rust, made: rust, ours }, copy)
+}
+
+/// Nanoseconds of many instances appended by one call, of the same by one call each, and of a plain memory copy of their bytes.
+struct Many {
+    name: String,
+    what: String,
+    bytes: usize,
+    ours: f64,
+    each: f64,
+    copy: f64,
+}
+
+fn many_row(n: usize) -> Many {
+    let t = tables(&only_slots(n)).tables();
+    let instances = lent_instances(&t[SLOTS]);
+    let items = instances.concat();
+    let bytes = 64 * n;
+    let (mut out, mut singly) = (vec![1u8; bytes], vec![2u8; bytes]);
+    let all = |out: &mut [u8]| zakvind::raw::append_instances(&t[TLASES], &t[BLASES], 0, black_box(&items), out, 0).used;
+    assert_eq!((all(&mut out) as usize, append_each(&t, &instances, &mut singly) as usize), (bytes, bytes));
+    assert!(out == singly, "{n}");
+    let source = out.clone();
+    let mut target = vec![1u8; bytes];
+    let [ours, each, copy] = times(
+        [
+            &mut || {
+                black_box(all(black_box(&mut out)));
+            },
+            &mut || {
+                black_box(append_each(&t, black_box(&instances), black_box(&mut singly)));
+            },
+            &mut || black_box(&mut target).copy_from_slice(black_box(&source)),
+        ],
+        &mut || {},
+    );
+    Many { name: format!("many-{n}"), what: format!("one call for {n} instances"), bytes, ours, each, copy }
 }
 
 fn submit_row(n: usize) -> Row {
@@ -542,6 +586,7 @@ fn main() {
         submit_row(100_000),
     ];
     let (append, copy) = append_rows();
+    let many = [40, 512].map(many_row);
     let anew = [
         written_anew("write-full", "a full sheet, nearly all of it used", &tables(&FULL)),
         written_anew("write-unused", "a full sheet of boxes and absent slots", &unused()),
@@ -557,6 +602,11 @@ fn main() {
         }))
         .collect();
 
+    let mut at_once = String::new();
+    for r in &many {
+        let times = [r.ours, r.each, r.copy].map(micro).join(" | ");
+        let _ = writeln!(at_once, "| {} | {} | {times} | {:.2} | {:.2} |", r.what, r.bytes, r.ours / r.copy, r.each / r.ours);
+    }
     let mut writing = String::new();
     for r in &anew {
         let times = [r.ours, r.read, r.copy].map(micro).join(" | ");
@@ -594,6 +644,10 @@ fn main() {
          looked at five times before its bytes are (its present byte, its id, its custom data and flags, and twice where present ones are \
          counted) and once more for the recorded list; the bytes themselves take one pass. In either way an instance's twelve numbers go \
          through `f32`, with the patterns of NaNs beside them; an appended one is a call of its own with an answer of seven numbers.\n\n\
+         Many instances of one Tlas appended by one call, against one call each for the same, and a plain memory copy of the bytes that they \
+         come to. The ratios are ours / copy and one call each / ours; all are judged, and then written in one pass, each one's twelve numbers \
+         through `f32` as above, by what writes a build's instance bytes too.\n\n\
+         | What | bytes | one call | one call each | copy | to a copy | each to one |\n|---|---|---|---|---|---|---|\n{at_once}\n\
          A sheet written anew, against reading it alone and a plain memory copy of its 56,415 bytes, which is what a caller has who cannot \
          tell whether two sheets agree. The ratios are ours / reading and ours / copy; it judges the sheet as reading does, and then writes it \
          section by section.\n\n\
@@ -666,6 +720,10 @@ fn main() {
     println!("refused open-most {}", micro(refused));
     println!("copy instances-512 {:.2}", instances.ours / copy);
     println!("copy append-512 {:.2}", append.ours / copy);
+    for r in &many {
+        println!("copy {} {:.2}", r.name, r.ours / r.copy);
+        println!("many {} {:.2}", r.name, r.each / r.ours);
+    }
     if let Some(file) = std::env::args().nth(1) {
         std::fs::write(&file, paper).unwrap_or_else(|e| panic!("{file}: {e}"));
     }

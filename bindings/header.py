@@ -11,7 +11,14 @@ sys.path.insert(0, str(ROOT / "format"))
 
 from refusals import CAUSES  # noqa: E402
 
-CALLS = {"sheet": "read_sheet", "build": "build", "submit": "submit", "append": "append_instance", "open": "open_groups"}
+CALLS = {
+    "sheet": "read_sheet",
+    "build": "build",
+    "submit": "submit",
+    "append": "append_instance",
+    "many": "append_instances",
+    "open": "open_groups",
+}
 TEXTS = ("report", "explain", "words")
 
 

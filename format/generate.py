@@ -99,7 +99,8 @@ below; for 1 to 6 another names the field or the id.
 ## Refusals
 
 E is entry and its geometry, or package and its slot, from 0; the second is 0 where there is none. In the library, a refused table is
-(section, record). "Both" is declared, given. Of groups of slots 2 to 5 have their byte place too.
+(section, record). "Both" is declared, given. Of groups of slots 2 to 5 have their byte place too. Of many instances in one call E is 0 and
+the position of the refused one, from 0; 0, 0 for the Tlas and for 39.
 """
 
 GROUPS = """\
@@ -120,6 +121,13 @@ All groups are judged, whether the last one names them or not, from the start on
 for 0), an item count (45 for 0), an item's first byte (5), the number of a group (45 if it is not an earlier one); then that nothing follows
 (3). Then the {next_one}th slot of the last group is refused (46) with the group and the item where it is written, then too little room (39).
 The most that is opened is {next_one} slots, however many are named: 64 groups that each name the one before twice name 2^63 in 564 bytes.
+"""
+
+INSTANCES = """\
+## Instances to append
+
+What `zakvind_append_instances` takes: instances end to end, {bytes} bytes each, a slot's fields after its present byte;
+`zakvind_append_instance` takes one. Bytes left over at the end, less than an instance's, are refused by 5 after the whole ones.
 """
 
 
@@ -225,6 +233,7 @@ def page():
     yield AS_TEXT.format(ones=ones, example=EXAMPLE, shown=example_shown())
     slots = section(8)
     yield GROUPS.format(groups=64, slot=size(slots.fields), most=slots.most, room=slots.most * size(slots.fields), next_one=slots.most + 1)
+    yield INSTANCES.format(bytes=size(slots.fields) - 1)
     yield PRINTED
     yield "| No. | Cause | Returned |\n|---|---|---|"
     yield from (f"| {n} | {c.words} | {c.returned} |" for n, c in CAUSES.items())

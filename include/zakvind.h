@@ -13,8 +13,8 @@
  * nothing that one call may write is lent to another at the same time. It allocates nothing and calls nothing but memcpy,
  * memmove, memset and memcmp.
  * Stack: zakvind_report and zakvind_explain use at most ZAKVIND_TEXT_STACK_BYTES, zakvind_open_groups ZAKVIND_GROUPS_STACK_BYTES,
- * every other call ZAKVIND_STACK_BYTES. These are bounds on what was measured on x86-64 with the largest tables and sheet, and with
- * 64 groups each inside the next (bindings/c/edges.c), nothing proves them.
+ * every other call ZAKVIND_STACK_BYTES. These are bounds on what was measured on x86-64 with the largest tables and sheet, with 512
+ * instances in one call, and with 64 groups each inside the next (bindings/c/edges.c), nothing proves them.
  *
  * Tables are records end to end, little-endian, with the layout of the sheet's sections. zakvind_records.h packs and unpacks
  * each record, and has the bytes of one and the most of each.
@@ -135,8 +135,9 @@ typedef struct {
 
 typedef struct {
     uint64_t number;
-    uint64_t e0, e1, f0, f1, f2;
-    uint64_t used; /* bytes in use now; of a refused append as many as before */
+    uint64_t e0, e1;     /* 0, 0; of zakvind_append_instances 0 and a position */
+    uint64_t f0, f1, f2; /* figures */
+    uint64_t used;       /* bytes in use now; of a refused append as many as before */
 } zakvind_appended;
 
 typedef struct {
@@ -283,6 +284,20 @@ zakvind_appended zakvind_append_instance(
     uint8_t *instances, size_t instances_len,
     uint64_t used);
 
+/* Appends many instances of one Tlas: the items are ZAKVIND_INSTANCE_FIELDS_BYTES each, end to end, each as zakvind_append_instance
+ * takes one. All are judged before the first is written, and the bytes are those of one such call after another.
+ * Refuses by 5, 6, 34, 35 and 39: first by 6 for the Tlas, with e 0, 0; then for each instance in turn by 6, 34 and 35, with e 0 and its
+ * position, from 0; then by 5 for a part of an item at the end, with e 0 and the number of whole ones; last by 39, with e 0, 0, where
+ * `used` and 64 bytes for each are more than `instances` has. It then writes nothing, and hands back `used` as it was. Without items
+ * nothing is written; the Tlas and the room are judged all the same. Not judged here: what zakvind_append_instance leaves to a build. */
+zakvind_appended zakvind_append_instances(
+    const uint8_t *tlases, size_t tlases_len,
+    const uint8_t *blases, size_t blases_len,
+    uint16_t tlas,
+    const uint8_t *items, size_t items_len,
+    uint8_t *instances, size_t instances_len,
+    uint64_t used);
+
 /* The lines that the sheet program prints, what is refused among them. Refuses by 39, and then writes nothing; room for
  * ZAKVIND_LONGEST_REPORT is always enough. */
 zakvind_reported zakvind_report(const uint8_t *sheet, size_t sheet_len, uint8_t *out, size_t out_len);
@@ -300,7 +315,8 @@ enum {
     ZAKVIND_CALL_SUBMISSION = 3, /* e0 is the action, e1 its kind, 0 where that is not known */
     ZAKVIND_CALL_APPEND = 4,
     ZAKVIND_CALL_WRITE = 5,      /* e0 is the place */
-    ZAKVIND_CALL_GROUPS = 6      /* e0 is the place; of 45 and 46 e0 is the group and e1 the item */
+    ZAKVIND_CALL_GROUPS = 6,     /* e0 is the place; of 45 and 46 e0 is the group and e1 the item */
+    ZAKVIND_CALL_APPEND_MANY = 7 /* e1 is the position; of 6 it may be 0 for the Tlas too, and the words say so */
 };
 zakvind_reported zakvind_words(
     uint64_t call, uint64_t number, uint64_t e0, uint64_t e1, uint64_t f0, uint64_t f1, uint64_t f2, uint8_t *out, size_t out_len);

@@ -315,6 +315,85 @@ static void call_append(input *in)
     must(!lents[3].before || memcmp(instances, lents[3].before, used) == 0, "what was in use is kept");
 }
 
+/* An instance alone, with room for it; where it is accepted its bytes go to `bytes`. */
+static zakvind_appended alone(const uint8_t *tlases, size_t t, const uint8_t *blases, size_t b, uint16_t tlas, const uint8_t *item,
+                              uint8_t *bytes)
+{
+    const int k = count;
+    uint8_t *room = lend(ZAKVIND_INSTANCE_BYTES, NULL, 0, 1);
+    const zakvind_appended r = zakvind_append_instance(tlases, t, blases, b, tlas, item, room, ZAKVIND_INSTANCE_BYTES, 0);
+    given(11, (const uint64_t *)&r, 7);
+    if (r.number == 0)
+        memcpy(bytes, room, ZAKVIND_INSTANCE_BYTES);
+    done_from(k);
+    return r;
+}
+
+/* Many instances into `room`, into exactly as much as is needed, and into a byte less, held to what each of them comes to alone; and none
+ * of them, and an end past 2^64. */
+static void call_many(input *in)
+{
+    enum { ITEM = ZAKVIND_INSTANCE_FIELDS_BYTES, BYTES = ZAKVIND_INSTANCE_BYTES };
+    size_t t = number(in, 2), b = number(in, 2), n = number(in, 2);
+    const size_t room = number(in, 2);
+    const uint16_t tlas = (uint16_t)number(in, 2);
+    const uint64_t used = number(in, 8);
+    const uint8_t *tlases = take(in, &t, 1, 1), *blases = take(in, &b, 1, 1), *items = take(in, &n, 1, 1);
+    uint8_t *instances = lend(room, NULL, 0, 1);
+    const size_t whole = n / ITEM, needed = whole * BYTES;
+    const int outside = tlas >= t / ZAKVIND_TLAS_BYTES;
+    const uint64_t wraps = (uint64_t)0 - needed;
+    const zakvind_appended none = zakvind_append_instances(tlases, t, blases, b, tlas, items, 0, instances, room, used);
+    must(none.number == (outside ? ZAKVIND_INVALID_RESOURCE : used > room ? ZAKVIND_OUTPUT_TOO_SHORT : 0) && none.used == used,
+         "no items are judged for the Tlas and the room");
+    const zakvind_appended past = zakvind_append_instances(tlases, t, blases, b, tlas, items, n, instances, room, wraps);
+    must(needed == 0 || (past.number && past.used == wraps), "an end past 2^64 is in no room");
+    kept(3, 0, "neither writes");
+    const zakvind_appended r = zakvind_append_instances(tlases, t, blases, b, tlas, items, n, instances, room, used);
+    given(10, (const uint64_t *)&r, 7);
+    for (int k = 0; k < 3; k++)
+        kept(k, 0, "the tables and the items are kept");
+    speak(7, r.number, r.e0, r.e1, r.f0, r.f1, r.f2);
+    done_from(4);
+    uint8_t *each = malloc(needed ? needed : 1);
+    zakvind_appended one = {0};
+    size_t good = 0;
+    while (good < whole && (one = alone(tlases, t, blases, b, tlas, items + good * ITEM, each + good * BYTES)).number == 0)
+        good++;
+    uint64_t refused = 0, position = 0;
+    if (outside)
+        refused = ZAKVIND_INVALID_RESOURCE;
+    else if (good < whole)
+        refused = one.number, position = good;
+    else if (n % ITEM)
+        refused = ZAKVIND_INVALID_VALUE, position = whole;
+    else if (used > room || needed > room - used)
+        refused = ZAKVIND_OUTPUT_TOO_SHORT;
+    must(r.number == refused, "6 for the Tlas, the first bad one's number alone, 5 for a part of one, 39");
+    must(r.e0 == 0 && r.e1 == position && r.f0 == 0 && r.f1 == 0 && r.f2 == 0, "E is 0 and the position, with no figures");
+    if (refused) {
+        kept(3, 0, "a refusal writes nothing");
+        must(r.used == used, "a refusal hands back the bytes in use as they were");
+    } else {
+        must(r.used == used + needed, "64 bytes are appended for each");
+        must(memcmp(instances + used, each, needed) == 0, "they are those of each alone, one after the other");
+        kept(3, r.used, "what is past them is kept");
+        must(!lents[3].before || memcmp(instances, lents[3].before, used) == 0, "what was in use is kept");
+    }
+    const int all_good = refused == 0 || (refused == ZAKVIND_OUTPUT_TOO_SHORT && used < 1 << 16);
+    for (size_t less = 0; all_good && less < 2 && less <= used + needed; less++) {
+        const size_t exact = used + needed - less;
+        uint8_t *out = lend(exact, NULL, 0, 1);
+        const zakvind_appended a = zakvind_append_instances(tlases, t, blases, b, tlas, items, n, out, exact, used);
+        given(10, (const uint64_t *)&a, 7);
+        must(a.number == (less ? ZAKVIND_OUTPUT_TOO_SHORT : 0) && a.used == (less ? used : used + needed), "room to the byte");
+        must(less || memcmp(out + used, each, needed) == 0, "the same bytes whatever the room");
+        must(!lents[4].before || memcmp(out, lents[4].before, less ? exact : used) == 0, "what was in use is kept");
+        done_from(4);
+    }
+    free(each);
+}
+
 /* Groups opened into `room`, into as much as is always enough, into exactly as much as is needed, and into a byte less. */
 static void call_groups(input *in)
 {
@@ -368,6 +447,7 @@ int LLVMFuzzerTestOneInput(const uint8_t *data, size_t size)
     case 2: call_submit(&in); break;
     case 3: call_append(&in); break;
     case 4: call_groups(&in); break;
+    case 5: call_many(&in); break;
     default: break;
     }
     done_from(0);

@@ -8,6 +8,8 @@ mod canonical;
 mod groups;
 #[path = "src/layout.rs"]
 mod layout;
+#[path = "src/many.rs"]
+mod many;
 #[path = "src/reading.rs"]
 mod reading;
 #[path = "src/side.rs"]
@@ -117,6 +119,22 @@ pub unsafe extern "C" fn zakvind_append_instance(
     used: u64,
 ) -> Numbers<7> {
     Numbers(reading().append(lent(tlases, n0), lent(blases, n1), tlas, &*instance, lent_mut(instances, n2), used))
+}
+
+#[no_mangle]
+pub unsafe extern "C" fn zakvind_append_instances(
+    tlases: *const u8,
+    n0: usize,
+    blases: *const u8,
+    n1: usize,
+    tlas: u16,
+    items: *const u8,
+    n2: usize,
+    instances: *mut u8,
+    n3: usize,
+    used: u64,
+) -> Numbers<7> {
+    Numbers(reading().append_many(lent(tlases, n0), lent(blases, n1), tlas, lent(items, n2), lent_mut(instances, n3), used))
 }
 
 #[no_mangle]

@@ -1,7 +1,7 @@
 #!/usr/bin/env python3
 """Makes everything that is generated anew, in a temporary place, and says what differs from what is there; with --write it is put there.
 
-Generated are the cases of crates/*_cases, by tests/make_*_cases.py; the sheets; what crates/zakvind is run on; docs/FORMAT.md and whatever
+Generated are the cases of crates/cases_*, by tests/make_*_cases.py; the sheets; what crates/zakvind is run on; docs/FORMAT.md and whatever
 else format/generate*.py make; the picture in docs/.
 """
 import concurrent.futures

@@ -1,6 +1,6 @@
 #!/usr/bin/env python3
 """Writes crates/cases_words/stdin, refusals each as a u32 1 and seven u64s, and crates/cases_words/stdout, the words that printed.py has for
-them: every call and number up to a few past the last, with each sort and kind, small numbers and the largest."""
+them: every call and number up to a few past the last, with each sort and kind, positions, small numbers and the largest."""
 import pathlib
 import random
 import struct
@@ -10,7 +10,7 @@ from printed import CALLS, words
 
 
 def cases():
-    for call in (*range(8), U64):
+    for call in (*range(9), U64):
         for number in (*range(50), U64 - 1, U64):
             yield call, number, 1, 2, 3, 4, 5
             yield call, number, U64, U64, U64, U64, U64
@@ -20,9 +20,12 @@ def cases():
     for kind in (*range(7), U64):
         for number in CALLS[3]:
             yield 3, number, 11, kind, 12, 13, 14
+    for position in (0, 1, 2, 511, 512, 2**32, U64):
+        for number in CALLS[7]:
+            yield from ((7, number, e0, position, 15, 16, 17) for e0 in (0, 18))
     rng = random.Random(27)
     for _ in range(300):
-        call = rng.randrange(1, 7)
+        call = rng.randrange(1, 8)
         yield call, rng.choice(CALLS[call]), *(rng.choice((rng.randrange(5), rng.randrange(U64 + 1))) for _ in range(5))
 
 

@@ -52,7 +52,8 @@ def explanation(refusal):
     return f"refused {number}: " + ", ".join([words, *(f"{name} {value}" for name, value in items)]) + "\n"
 
 
-# the numbers that a call refuses with: 1 reads a sheet, 2 builds, 3 submits, 4 appends an instance, 5 writes a sheet, 6 opens groups
+# the numbers that a call refuses with: 1 reads a sheet, 2 builds, 3 submits, 4 appends an instance, 5 writes a sheet, 6 opens groups,
+# 7 appends many instances
 CALLS = {
     1: range(1, 6),
     2: (4, 5, 6, *range(10, 40)),
@@ -60,6 +61,7 @@ CALLS = {
     4: (6, 34, 35, 39),
     5: (*range(1, 6), 39),
     6: (*range(2, 6), 39, 45, 46),
+    7: (5, 6, 34, 35, 39),
 }
 
 
@@ -71,6 +73,10 @@ def words(call, number, e0, e1, f0, f1, f2):
         return f"refused {number}: no such cause\n"
     if call == 6 and number in (45, 46):
         return f"refused {number}: {CAUSES[number].words}, group {e0}, item {e1}\n"
+    if call == 7 and number != 39:
+        # the Tlas's 6 is at 0 too
+        which = "Tlas or instance" if (number, e1) == (6, 0) else "instance"
+        return f"refused {number}: {CAUSES[number].words}, {which} {e1}\n"
     if call == 1 or (call in (5, 6) and number != 39):
         return explanation(("sheet", number, e0, ()))
     if call == 2:

@@ -1,6 +1,6 @@
 /* The header against the library: records packed and unpacked, the room of a build, empty tables, a sheet written anew, opened groups,
- * words, a refused append, and how much stack each call uses, with the largest tables, sheet and groups. Every answer is held against what it
- * must be. */
+ * words, a refused append, many instances in one call, and how much stack each call uses, with the largest tables, sheet and groups. Every
+ * answer is held against what it must be. */
 #define _GNU_SOURCE
 #include <zakvind.h>
 
@@ -75,6 +75,7 @@ static void fill(void)
         r.flags = ZAKVIND_FLAGS_USE_TRANSFORM | (i % 3 ? ZAKVIND_FLAGS_ALLOW_COMPACTION : 0);
         r.kind = i % 4 == 3;
         r.build_scratch_size = 300 + i;
+        r.handle = 0x123456789abcdef0 + i;
         r.built_index = 1;
         zakvind_pack_blas(blases + i * ZAKVIND_BLAS_BYTES, &r);
     }
@@ -212,6 +213,10 @@ static void nothing(void)
     must(zakvind_write_sheet(none, 0, none, 0).number == ZAKVIND_TRUNCATED, "a sheet of nothing written");
     must(zakvind_write_sheet(sheet, sizeof sheet, none, 0).number == ZAKVIND_OUTPUT_TOO_SHORT, "a sheet without room");
     must(zakvind_open_groups(none, 0, none, 0).number == ZAKVIND_TRUNCATED, "groups of nothing opened");
+    zakvind_appended a = zakvind_append_instances(none, 0, none, 0, 0, none, 0, none, 0, 0);
+    must(a.number == ZAKVIND_INVALID_RESOURCE && a.used == 0, "no instances of no Tlas");
+    a = zakvind_append_instances(tlases, ZAKVIND_TLAS_BYTES, none, 0, 0, none, 0, none, 0, 0);
+    must(a.number == 0 && a.used == 0, "no instances of a Tlas");
     must(zakvind_report(none, 0, none, 0).number == ZAKVIND_OUTPUT_TOO_SHORT, "a text without room");
 }
 
@@ -403,6 +408,136 @@ static void refused_append(void)
     must(used == sizeof out, "all instances stand one after the other");
 }
 
+/* ---- many instances in one call */
+
+enum { ITEM = ZAKVIND_INSTANCE_FIELDS_BYTES, ONE = ZAKVIND_INSTANCE_BYTES };
+
+static uint8_t items[ZAKVIND_MOST_SLOTS * ITEM + ITEM - 1], many[ZAKVIND_MOST_SLOTS * ONE + 128], singly[sizeof many];
+static uint8_t returning[2 * ZAKVIND_TLAS_BYTES], both_sorts[2 * ZAKVIND_BLAS_BYTES];
+
+/* instances of any bits, of Blases below a number */
+static void put_items(uint16_t below)
+{
+    for (size_t i = 0; i < sizeof items; i++)
+        items[i] = random_byte();
+    for (size_t i = 0; i < ZAKVIND_MOST_SLOTS; i++) {
+        zakvind_put(items + i * ITEM, 2, random_byte() % below);
+        items[i * ITEM + 5] = 0; /* the custom data's last */
+    }
+}
+
+/* Two Tlases, of which the second returns vertices, over two Blases, of which the second does. */
+static zakvind_appended appends_some(uint16_t tlas, size_t bytes, size_t room, uint64_t used)
+{
+    memset(many, 0x5a, sizeof many);
+    const zakvind_appended a = zakvind_append_instances(returning, sizeof returning, both_sorts, sizeof both_sorts, tlas, items, bytes, many,
+                                                        room, used);
+    must(a.f0 == 0 && a.f1 == 0 && a.f2 == 0, "there are no figures");
+    must(!a.number || (a.used == used && all(many, sizeof many, 0x5a)), "a refusal writes nothing, and what is in use is as before");
+    must(a.number || (a.e0 == 0 && a.e1 == 0 && a.used == used + bytes / ITEM * ONE), "64 bytes more for each are in use");
+    return a;
+}
+
+static int refused_at(zakvind_appended a, uint64_t number, uint64_t position)
+{
+    return a.number == number && a.e0 == 0 && a.e1 == position;
+}
+
+static void many_as_one_by_one(void)
+{
+    static const size_t counts[] = {0, 1, 2, 40, ZAKVIND_MOST_SLOTS};
+    static const size_t before[] = {0, 64, 3};
+    put_items(ZAKVIND_MOST_BLASES);
+    for (size_t i = 0; i < sizeof counts / sizeof *counts; i++)
+        for (size_t j = 0; j < sizeof before / sizeof *before; j++) {
+            const size_t n = counts[i], room = before[j] + n * ONE;
+            uint64_t used = before[j];
+            memset(many, 0x5a, sizeof many);
+            memset(singly, 0x5a, sizeof singly);
+            for (size_t k = 0; k < n; k++)
+                used = zakvind_append_instance(tlases, sizeof tlases, blases, sizeof blases, 31, items + k * ITEM, singly, room, used).used;
+            const zakvind_appended a = zakvind_append_instances(tlases, sizeof tlases, blases, sizeof blases, 31, items, n * ITEM, many,
+                                                                room, before[j]);
+            must(used == room && refused_at(a, 0, 0) && a.used == used, "as many bytes in use as after one call for each");
+            must(memcmp(many, singly, sizeof many) == 0, "the bytes of one call for each, and the others kept");
+        }
+}
+
+static void many_refused(void)
+{
+    static const size_t positions[] = {0, 1, 17, 39};
+    const size_t bytes = 40 * ITEM, most = sizeof many;
+    zakvind_tlas tlas = zakvind_tlas_default();
+    zakvind_blas blas = zakvind_blas_default();
+    zakvind_pack_tlas(returning, &tlas);
+    zakvind_pack_blas(both_sorts, &blas);
+    tlas.flags = ZAKVIND_FLAGS_ALLOW_RAY_HIT_VERTEX_RETURN;
+    blas.flags = ZAKVIND_FLAGS_ALLOW_RAY_HIT_VERTEX_RETURN;
+    zakvind_pack_tlas(returning + ZAKVIND_TLAS_BYTES, &tlas);
+    zakvind_pack_blas(both_sorts + ZAKVIND_BLAS_BYTES, &blas);
+
+    /* the room, to the byte */
+    put_items(2);
+    must(refused_at(appends_some(0, bytes, 40 * ONE, 0), 0, 0), "exactly their room");
+    must(refused_at(appends_some(0, bytes, 40 * ONE + 63, 63), 0, 0), "exactly their room after others");
+    must(refused_at(appends_some(0, bytes, 40 * ONE - 1, 0), ZAKVIND_OUTPUT_TOO_SHORT, 0), "a byte less of room");
+    must(refused_at(appends_some(0, bytes, 40 * ONE, 1), ZAKVIND_OUTPUT_TOO_SHORT, 0), "a byte more in use");
+    must(refused_at(appends_some(0, bytes, 64, 65), ZAKVIND_OUTPUT_TOO_SHORT, 0), "more in use than there is room");
+    /* sums that would be 2^64, and a little more */
+    for (uint64_t past = 0; past < 2; past++) {
+        must(refused_at(appends_some(0, bytes, most, 0 - (uint64_t)(40 * ONE) + past), ZAKVIND_OUTPUT_TOO_SHORT, 0), "2^64 bytes");
+        must(refused_at(appends_some(0, ITEM, most, UINT64_MAX - 63 + past), ZAKVIND_OUTPUT_TOO_SHORT, 0), "2^64 bytes with one");
+    }
+    must(refused_at(appends_some(0, bytes, most, UINT64_MAX), ZAKVIND_OUTPUT_TOO_SHORT, 0), "as many in use as can be said");
+
+    /* no items */
+    must(refused_at(appends_some(0, 0, 0, 0), 0, 0) && all(many, most, 0x5a), "no items and no room");
+    must(refused_at(appends_some(0, 0, 64, 64), 0, 0) && all(many, most, 0x5a), "no items, and all is in use");
+    must(refused_at(appends_some(0, 0, 64, 65), ZAKVIND_OUTPUT_TOO_SHORT, 0), "no items, and more is in use than there is room");
+    must(refused_at(appends_some(0, 0, most, UINT64_MAX), ZAKVIND_OUTPUT_TOO_SHORT, 0), "no items, and the most in use");
+    must(refused_at(appends_some(2, 0, 64, 65), ZAKVIND_INVALID_RESOURCE, 0), "no items of a Tlas outside its table");
+
+    /* a part of one, at the end: after each whole one, and before the room */
+    for (size_t part = 1; part < ITEM; part++) {
+        must(refused_at(appends_some(0, part, most, 0), ZAKVIND_INVALID_VALUE, 0), "a part alone");
+        must(refused_at(appends_some(0, bytes + part, most, 0), ZAKVIND_INVALID_VALUE, 40), "a part after 40");
+    }
+    must(refused_at(appends_some(0, bytes + 1, 0, 1), ZAKVIND_INVALID_VALUE, 40), "a part before the room");
+    must(refused_at(appends_some(0, sizeof items, most, 0), ZAKVIND_INVALID_VALUE, ZAKVIND_MOST_SLOTS), "a part after 512");
+    must(refused_at(appends_some(2, bytes + 1, 0, 1), ZAKVIND_INVALID_RESOURCE, 0), "the Tlas before all");
+    must(refused_at(appends_some(UINT16_MAX, bytes, most, 0), ZAKVIND_INVALID_RESOURCE, 0), "the greatest Tlas id");
+
+    /* an instance, before a part and the room; of one the id comes first, then its custom data, then its vertices */
+    for (size_t i = 0; i < sizeof positions / sizeof *positions; i++) {
+        const size_t k = positions[i];
+        uint8_t *at = items + k * ITEM;
+        for (size_t j = 0; j < 40; j++)
+            zakvind_put(items + j * ITEM, 2, 1);
+        must(refused_at(appends_some(1, bytes, most, 0), 0, 0), "all return vertices");
+        zakvind_put(at, 2, 0);
+        must(refused_at(appends_some(0, bytes, most, 0), 0, 0), "a Tlas that does not ask for vertices");
+        must(refused_at(appends_some(1, bytes, most, 0), ZAKVIND_TLAS_DEPENDENT_MISSING_VERTEX_RETURN, k), "no vertices");
+        at[5] = 1;
+        must(refused_at(appends_some(0, bytes, most, 0), ZAKVIND_TLAS_INVALID_CUSTOM_INDEX, k), "custom data of 2^24");
+        must(refused_at(appends_some(1, bytes, most, 0), ZAKVIND_TLAS_INVALID_CUSTOM_INDEX, k), "custom data before vertices");
+        must(refused_at(appends_some(1, bytes + 1, 0, 1), ZAKVIND_TLAS_INVALID_CUSTOM_INDEX, k), "custom data before a part and the room");
+        zakvind_put(at, 2, 2);
+        must(refused_at(appends_some(1, bytes + 1, 0, 1), ZAKVIND_INVALID_RESOURCE, k), "an id before custom data");
+        must(refused_at(appends_some(2, bytes + 1, 0, 1), ZAKVIND_INVALID_RESOURCE, 0), "the Tlas before an id");
+        must(refused_at(appends_some(1, k * ITEM, most, 0), 0, 0), "the ones before it are fine");
+        must(refused_at(appends_some(1, k * ITEM + ITEM - 1, most, 0), ZAKVIND_INVALID_VALUE, k), "of a part nothing else is judged");
+        at[5] = 0;
+        if (k < 39) {
+            at[5 + ITEM] = 1;
+            zakvind_put(at, 2, 0);
+            must(refused_at(appends_some(1, bytes, most, 0), ZAKVIND_TLAS_DEPENDENT_MISSING_VERTEX_RETURN, k), "the first of two");
+            zakvind_put(at, 2, 1);
+            must(refused_at(appends_some(1, bytes, most, 0), ZAKVIND_TLAS_INVALID_CUSTOM_INDEX, k + 1), "the second, as the first is fine");
+            at[5 + ITEM] = 0;
+        }
+    }
+}
+
 /* ---- words */
 
 static uint8_t text[ZAKVIND_LONGEST_EXPLAINED];
@@ -423,7 +558,24 @@ static void words(void)
     const char itself[] = "refused 45: count 0, or a group that is not an earlier one, group 3, item 4\n";
     told = zakvind_words(ZAKVIND_CALL_GROUPS, ZAKVIND_INVALID_GROUP, 3, 4, 0, 0, 0, text, sizeof text);
     must(told.written == sizeof itself - 1 && memcmp(text, itself, sizeof itself - 1) == 0, "the words of a group");
-    for (uint64_t call = 0; call < 8; call++)
+    static const struct {
+        uint64_t number, position;
+        const char *line;
+    } of_many[] = {
+        {ZAKVIND_INVALID_VALUE, 40, "refused 5: value outside its field, instance 40\n"},
+        {ZAKVIND_INVALID_VALUE, 0, "refused 5: value outside its field, instance 0\n"},
+        {ZAKVIND_INVALID_RESOURCE, 7, "refused 6: id outside its table, instance 7\n"},
+        {ZAKVIND_INVALID_RESOURCE, 0, "refused 6: id outside its table, Tlas or instance 0\n"},
+        {ZAKVIND_TLAS_INVALID_CUSTOM_INDEX, 0, "refused 34: custom data from 2^24 on, instance 0\n"},
+        {ZAKVIND_TLAS_DEPENDENT_MISSING_VERTEX_RETURN, 511, "refused 35: Tlas returns vertices, Blas does not, instance 511\n"},
+        {ZAKVIND_OUTPUT_TOO_SHORT, 0, "refused 39: lent output too short\n"},
+    };
+    for (size_t i = 0; i < sizeof of_many / sizeof *of_many; i++) {
+        const size_t n = strlen(of_many[i].line);
+        told = zakvind_words(ZAKVIND_CALL_APPEND_MANY, of_many[i].number, 0, of_many[i].position, 0, 0, 0, text, sizeof text);
+        must(told.written == n && memcmp(text, of_many[i].line, n) == 0, "the words of many instances");
+    }
+    for (uint64_t call = 0; call < 9; call++)
         for (uint64_t number = 0; number < 50; number++)
             for (uint64_t e = 0; e < 6; e++) {
                 const uint64_t top = UINT64_MAX;
@@ -460,6 +612,13 @@ static void appends(void)
 {
     must(zakvind_append_instance(tlases, sizeof tlases, blases, sizeof blases, 0, slots + 1, instances, sizeof instances, 0).number == 0,
          "an instance");
+}
+
+static void appends_many(void)
+{
+    const zakvind_appended a = zakvind_append_instances(tlases, sizeof tlases, blases, sizeof blases, 0, items, ZAKVIND_MOST_SLOTS * ITEM,
+                                                        many, sizeof many, 0);
+    must(a.number == 0 && a.used == ZAKVIND_MOST_SLOTS * ONE, "512 instances");
 }
 
 static void explains(void) { told = zakvind_explain(sheet, sizeof sheet, text, sizeof text); }
@@ -501,6 +660,7 @@ static void stacks(void)
         {"build", build, ZAKVIND_STACK_BYTES},
         {"submit", submits, ZAKVIND_STACK_BYTES},
         {"append_instance", appends, ZAKVIND_STACK_BYTES},
+        {"append_instances", appends_many, ZAKVIND_STACK_BYTES},
         {"report", reports, ZAKVIND_TEXT_STACK_BYTES},
         {"explain", explains, ZAKVIND_TEXT_STACK_BYTES},
         {"words", speaks, ZAKVIND_STACK_BYTES},
@@ -530,6 +690,8 @@ int main(void)
     written();
     opened_groups();
     refused_append();
+    many_as_one_by_one();
+    many_refused();
     words();
     stacks();
     puts("C: records, room, empty tables, written sheets, opened groups, appends and stack are as is said");

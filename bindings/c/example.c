@@ -88,6 +88,16 @@ int main(void)
     a = zakvind_append_instance(tlases, sizeof tlases, blases, sizeof blases, 0, slots + 1, appended, sizeof appended, 64);
     must(a.number == ZAKVIND_OUTPUT_TOO_SHORT, "appending without room");
 
+    /* and twice, by one call */
+    uint8_t items[2 * ZAKVIND_INSTANCE_FIELDS_BYTES], two[2 * ZAKVIND_INSTANCE_BYTES];
+    memcpy(items, slots + 1, ZAKVIND_INSTANCE_FIELDS_BYTES);
+    memcpy(items + ZAKVIND_INSTANCE_FIELDS_BYTES, slots + 1, ZAKVIND_INSTANCE_FIELDS_BYTES);
+    a = zakvind_append_instances(tlases, sizeof tlases, blases, sizeof blases, 0, items, sizeof items, two, sizeof two, 0);
+    must(a.number == 0 && a.used == 128 && memcmp(two, instances, 64) == 0 && memcmp(two + 64, instances, 64) == 0, "appending two");
+    items[ZAKVIND_INSTANCE_FIELDS_BYTES] = 1; /* a Blas that is not there */
+    a = zakvind_append_instances(tlases, sizeof tlases, blases, sizeof blases, 0, items, sizeof items, two, sizeof two, 0);
+    must(a.number == ZAKVIND_INVALID_RESOURCE && a.e0 == 0 && a.e1 == 1 && a.used == 0, "the second one refused");
+
     /* what was recorded, and a use */
     zakvind_command_indices indices = {0, 5};
     uint16_t dependency_counts[1] = {0}, dependencies[ZAKVIND_TLAS_ROOM] = {0};

@@ -79,6 +79,14 @@ pub fn write(case: &Case) -> String {
             write_table(&mut out, TLASES, tlases);
             let _ = writeln!(out, "instance {tlas} {}\nroom {room} {used}", hex(instance));
         }
+        Case::Many { tlases, blases, tlas, items, room, used } => {
+            write_table(&mut out, BLASES, blases);
+            write_table(&mut out, TLASES, tlases);
+            let _ = writeln!(out, "into {tlas}\nroom {room} {used}");
+            for item in items.chunks(55) {
+                let _ = writeln!(out, "item {}", hex(item));
+            }
+        }
         Case::Groups { bytes, room } => {
             let _ = writeln!(out, "room {room}\nbytes {}", hex(bytes));
         }
@@ -93,7 +101,7 @@ pub fn read(text: &str) -> Result<Case, String> {
     let mut tables: [Vec<u8>; 9] = Default::default();
     let (mut head, mut alignment, mut indices, mut rooms, mut sheet_room) = ([1, 256, 1], 256, [0, 1], [0; 7], 0);
     let (mut bytes, mut counts, mut cells, mut actions, mut pieces) = (None, Vec::new(), Vec::new(), Vec::new(), Vec::new());
-    let (mut tlas, mut instance, mut room, mut used) = (0, [0; 55], 0, 0);
+    let (mut tlas, mut instance, mut items, mut room, mut used) = (0, [0; 55], Vec::new(), 0, 0);
     for line in lines {
         let bad = || format!("not understood: {line}");
         let words: Vec<&str> = line.split_whitespace().collect();
@@ -119,7 +127,7 @@ pub fn read(text: &str) -> Result<Case, String> {
             ("alignment", _) => alignment = number(1)?,
             ("indices", _) => indices = rest(1)?.try_into().map_err(|_| bad())?,
             ("room", "sheet") => sheet_room = words.get(1).and_then(|w| w.parse().ok()).ok_or_else(bad)?,
-            ("room", "append") => (room, used) = (number(1)?, number(2)?),
+            ("room", "append" | "many") => (room, used) = (number(1)?, number(2)?),
             ("room", "groups") => room = number(1)?,
             ("room", _) => {
                 let k = ROOMS.iter().position(|n| Some(n) == words.get(1)).ok_or_else(bad)?;
@@ -141,6 +149,8 @@ pub fn read(text: &str) -> Result<Case, String> {
                 let fields = unhex(words.get(2).ok_or_else(bad)?).ok_or_else(bad)?;
                 instance = fields.try_into().map_err(|_| bad())?;
             }
+            ("into", _) => tlas = number(1)? as u16,
+            ("item", _) => items.extend(unhex(words.get(1).ok_or_else(bad)?).ok_or_else(bad)?),
             _ => return Err(bad()),
         }
     }
@@ -158,6 +168,7 @@ pub fn read(text: &str) -> Result<Case, String> {
         }
         "submission" => Ok(Case::Submit { indices, blases, tlases, dependency_counts: counts, dependencies: cells, pieces }),
         "append" => Ok(Case::Append { tlases, blases, tlas, instance, room: room as usize, used }),
+        "many" => Ok(Case::Many { tlases, blases, tlas, items, room: room as usize, used }),
         "groups" => Ok(Case::Groups { bytes: bytes.unwrap_or_default(), room: room as usize }),
         _ => Err(format!("no such kind of case: {kind}")),
     }
@@ -167,7 +178,7 @@ pub fn read(text: &str) -> Result<Case, String> {
 pub fn difference(rust: &[Part], other: &[Part]) -> String {
     let mut out = String::new();
     for (a, b) in rust.iter().zip(other) {
-        let answer = ["read", "report", "write", "build", "submit", "append", "open"].contains(&a.name);
+        let answer = ["read", "report", "write", "build", "submit", "append", "many", "open"].contains(&a.name);
         if answer || a != b {
             let mark = if a == b { " " } else { "*" };
             if answer || a.values.len() <= 8 {

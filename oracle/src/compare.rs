@@ -9,7 +9,7 @@ use crate::side::{Case, Part, Side};
 use crate::{case_file, generate, shrink, watch};
 
 /// Numbers that the Rust, its stand-ins or the paper can give, by call.
-const CAN_GIVE: [(&str, &[u64]); 5] = [
+const CAN_GIVE: [(&str, &[u64]); 6] = [
     ("sheet", &[0, 1, 2, 3, 4, 5]),
     (
         "build",
@@ -20,6 +20,7 @@ const CAN_GIVE: [(&str, &[u64]); 5] = [
     ),
     ("submit", &[0, 4, 5, 6, 21, 39, 40, 41, 42, 43, 44]),
     ("append", &[0, 6, 34, 35, 39]),
+    ("many", &[0, 5, 6, 34, 35, 39]),
     ("open", &[0, 2, 3, 4, 5, 39, 45, 46]),
 ];
 

@@ -54,6 +54,19 @@ pub fn bytes(case: &Case, text: usize) -> Option<Vec<u8>> {
             out.extend_from_slice(tlases);
             out.extend_from_slice(blases);
         }
+        Case::Many { tlases, blases, tlas, items, room, used } => {
+            let n = [tlases.len(), blases.len(), items.len(), *room];
+            if !fits(&n) {
+                return None;
+            }
+            out.push(5);
+            put(&mut out, &lens(&n), 2);
+            put(&mut out, &[*tlas], 2);
+            put(&mut out, &[*used], 8);
+            out.extend_from_slice(tlases);
+            out.extend_from_slice(blases);
+            out.extend_from_slice(items);
+        }
         Case::Groups { bytes, room } => {
             out.push(4);
             put(&mut out, &[*room as u16], 2);

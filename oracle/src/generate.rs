@@ -904,6 +904,82 @@ fn append(r: &mut Rng) -> Case {
     Case::Append { tlases: tlas_table, blases: blas_table, tlas: id(r, tlases as usize), instance, room, used }
 }
 
+/// An instance to append, good for the Tlas where one of the Blases is.
+fn instance(r: &mut Rng, good: &[u64]) -> [u64; 16] {
+    let id = if good.is_empty() { 0 } else { r.pick(good) };
+    slot_record(r, true, id)
+}
+
+/// One or two of an instance's refusals; `bad` are the Blases that don't return vertices where the Tlas does.
+fn spoil_instance(r: &mut Rng, s: &mut [u64; 16], blases: u64, bad: &[u64]) {
+    let (outside, custom) = (r.pick(&[blases, blases + 1, 65535]), r.pick(&[1 << 24, (1 << 24) + 1, 1 << 31, TOP32]));
+    let other = if bad.is_empty() { s[slot::BLAS] } else { r.pick(bad) };
+    match r.below(8) {
+        0..2 => s[slot::BLAS] = outside,
+        2..4 => s[slot::CUSTOM_DATA] = custom,
+        4..6 => s[slot::BLAS] = other,
+        6 => (s[slot::BLAS], s[slot::CUSTOM_DATA]) = (outside, custom),
+        _ => (s[slot::BLAS], s[slot::CUSTOM_DATA]) = (other, custom),
+    }
+}
+
+fn many(r: &mut Rng) -> Case {
+    let any = r.from(100, 300);
+    let blases = if r.chance(3) { 0 } else { r.pick(&[1, 2, 2, 3, 3, 4, 4, any]) };
+    let tlases = if r.chance(3) { 0 } else { r.from(1, 3) };
+    let mut raw = Raw::default();
+    for _ in 0..blases {
+        // the tables' other fields are not judged; more Blases return vertices than not
+        let mut b: [u64; 7] = std::array::from_fn(|_| r.u64());
+        b[blas::FLAGS] |= r.pick(&[0, 2]);
+        raw.push(BLASES, &b);
+    }
+    for _ in 0..tlases {
+        let t: [u64; 5] = std::array::from_fn(|_| r.u64());
+        raw.push(TLASES, &t);
+    }
+    let tlas = if tlases == 0 || r.chance(5) { r.pick(&[tlases, tlases + 1, 65535]) } else { r.below(tlases) };
+    let returns = tlas < tlases && raw.get(TLASES, tlas as usize, tlas::FLAGS) & 2 != 0;
+    let (good, bad): (Vec<u64>, Vec<u64>) =
+        (0..blases).partition(|&b| !returns || raw.get(BLASES, b as usize, blas::FLAGS) & 2 != 0);
+    let (few, more) = (r.from(1, 12), r.from(13, 600));
+    let n = if r.chance(3) { r.pick(&[more, more, 512, 600]) } else { r.pick(&[0, 0, 1, 2, few, few, few, few, few, few]) };
+    let mut slots: Vec<[u64; 16]> = (0..n).map(|_| instance(r, &good)).collect();
+    if n > 0 && r.chance(35) {
+        for _ in 0..r.pick(&[1, 1, 2, 3]) {
+            // the last is a boundary
+            let k = if r.chance(20) { slots.len() - 1 } else { r.index(slots.len()) };
+            spoil_instance(r, &mut slots[k], blases, &bad);
+        }
+    }
+    let mut all = Raw::default();
+    slots.iter().for_each(|s| all.push(SLOTS, s));
+    // without their present bytes
+    let mut items: Vec<u8> = all.table(SLOTS).chunks_exact(SIZES[SLOTS]).flat_map(|s| s[1..].to_vec()).collect();
+    if r.chance(10) {
+        let part = r.from(1, 54);
+        let part = r.pick(&[1, 54, part, part]);
+        items.extend((0..part).map(|_| r.byte() as u8).collect::<Vec<u8>>());
+    }
+    let needed = 64 * n;
+    let used = r.pick(&[0, 0, 64, 128, 1, 63, 1000]);
+    let lent = r.pick(&[needed, needed, needed, needed, needed, needed + 1, needed + 64, needed + 100]);
+    let less = r.pick(&[1, 1, 63, 64, 65, needed / 2, needed]);
+    let room = used + if r.chance(15) { lent.min(needed).saturating_sub(less) } else { lent };
+    // past the room; and ends about 2^64, which are in the room where they wrap
+    let wrapped = needed.wrapping_neg();
+    let far = [room + 1, room + 64, TOP, TOP - 63, 1 << 63, wrapped, wrapped.wrapping_sub(1), wrapped.wrapping_add(room)];
+    let used = if r.chance(8) { r.pick(&far) } else { used };
+    let (mut blas_table, mut tlas_table) = (raw.table(BLASES), raw.table(TLASES));
+    if r.chance(4) {
+        blas_table.pop();
+    }
+    if r.chance(4) {
+        tlas_table.pop();
+    }
+    Case::Many { tlases: tlas_table, blases: blas_table, tlas: tlas as u16, items, room: room as usize, used }
+}
+
 /// An item of a group: the bytes of a slot, or the number of a group.
 enum Item {
     Slot([u8; 55]),
@@ -1022,7 +1098,8 @@ pub fn case(seed: u64, index: u64) -> Case {
     let r = &mut Rng::new(seed, index);
     match r.below(100) {
         0..40 => sheet(r),
-        40..70 => build(r),
+        40..68 => build(r),
+        68..70 => many(r),
         70..95 => submission(r),
         95..98 => append(r),
         _ => groups(r),

@@ -4,6 +4,41 @@ use zakvind::raw;
 
 pub struct Library;
 
+/// "the bytes equal one call after another; otherwise it gives the refusal that the first bad one would give alone": held to what `one`
+/// instance is answered, alone and in turn on `lent`, which is as it was before the call.
+fn one_after_another(
+    one: impl Fn(&[u8; 55], &mut [u8], u64) -> raw::Appended,
+    items: &[u8],
+    mut lent: Vec<u8>,
+    used: u64,
+    many: &raw::Appended,
+    instances: &[u8],
+) {
+    let (whole, part) = items.as_chunks::<55>();
+    let alone = whole.iter().map(|item| one(item, &mut [0; 64], 0));
+    if let Some((k, bad)) = alone.enumerate().find(|(_, a)| a.number != 0) {
+        let told = (many.number, many.e, many.figures);
+        assert_eq!(told, (bad.number, [0, k as u64], bad.figures), "another refusal than the first bad one's alone");
+        return;
+    }
+    // of no items, and of a part of one, there is no call to hold it to
+    if whole.is_empty() || !part.is_empty() {
+        return;
+    }
+    let mut end = used;
+    let in_turn = |item| {
+        let a = one(item, &mut lent, end);
+        end = a.used;
+        a.number
+    };
+    let number = whole.iter().map(in_turn).find(|&number| number != 0).unwrap_or(0);
+    assert_eq!(many.number, number, "another number than of one call after another");
+    if number == 0 {
+        assert_eq!(many.used, end, "other bytes in use than after one call after another");
+        assert!(instances == lent, "other bytes than of one call after another");
+    }
+}
+
 impl Side for Library {
     fn read_sheet(&mut self, sheet: &[u8]) -> [u64; 23] {
         let a = raw::read_sheet(sheet);
@@ -67,6 +102,14 @@ impl Side for Library {
         used: u64,
     ) -> [u64; 7] {
         let a = raw::append_instance(tlases, blases, tlas, instance, instances, used);
+        [a.number, a.e[0], a.e[1], a.figures[0], a.figures[1], a.figures[2], a.used]
+    }
+
+    fn append_many(&mut self, tlases: &[u8], blases: &[u8], tlas: u16, items: &[u8], instances: &mut [u8], used: u64) -> [u64; 7] {
+        let before = instances.to_vec();
+        let a = raw::append_instances(tlases, blases, tlas, items, instances, used);
+        let one = |item: &[u8; 55], out: &mut [u8], used| raw::append_instance(tlases, blases, tlas, item, out, used);
+        one_after_another(one, items, before, used, &a, instances);
         [a.number, a.e[0], a.e[1], a.figures[0], a.figures[1], a.figures[2], a.used]
     }
 

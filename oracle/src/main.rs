@@ -9,6 +9,7 @@ mod groups;
 mod layout;
 #[cfg(library)]
 mod library;
+mod many;
 mod mutants;
 mod paper;
 mod reading;
@@ -116,7 +117,7 @@ fn run() {
         // each fault of the second reading must be found
         Some("faults") => {
             let Some(count) = word(1).and_then(|w| w.parse().ok()) else { usage() };
-            let all = reading::FAULTS + groups::FAULTS;
+            let all = reading::FAULTS + groups::FAULTS + many::FAULTS;
             let missed: Vec<u32> = (1..=all)
                 .filter(|&fault| {
                     let name = format!("fault {fault}");

@@ -9,7 +9,7 @@ pub struct Reading {
     pub fault: u32,
 }
 
-/// How many faults there are, from 1 on; those of opened groups follow.
+/// How many faults there are, from 1 on; those of opened groups follow, then those of many appended instances.
 pub const FAULTS: u32 = 60;
 
 const TOP: u64 = u64::MAX;
@@ -841,6 +841,16 @@ impl Side for Reading {
         let at = used as usize;
         instances[at..at + 64].copy_from_slice(&self.instance_bytes(instance, b.get(blas::ADDRESS)));
         [0, 0, 0, 0, 0, 0, used + 64]
+    }
+
+    fn append_many(&mut self, tlases: &[u8], blases: &[u8], t: u16, items: &[u8], instances: &mut [u8], used: u64) -> [u64; 7] {
+        let fault = self.fault.saturating_sub(FAULTS + crate::groups::FAULTS);
+        let call = crate::many::Call { tlas_there: u64::from(t) < count(3, tlases), items, used };
+        let mut alone = |item: &[u8; 55]| {
+            let mut bytes = [0; 64];
+            (self.append(tlases, blases, t, item, &mut bytes, 0)[0], bytes)
+        };
+        crate::many::append(&call, &mut alone, instances, fault)
     }
 
     fn report(&mut self, sheet: &[u8], out: &mut [u8]) -> [u64; 2] {

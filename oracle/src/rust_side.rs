@@ -237,6 +237,25 @@ fn assert_as_in_the_rust(w: &World, lent: &Lent) {
     }
 }
 
+// ---- instances --------------------------------------------------------------------------------------------------------
+
+/// The 64 bytes of an instance, whatever the room.
+fn instance_alone(tlases: &[u8], blases: &[u8], tlas: u16, instance: &[u8; 55]) -> Result<Vec<u8>, (u64, Mark)> {
+    let outside = (6, Mark::Paper);
+    let t = tlases.chunks_exact(SIZES[3]).nth(tlas.into()).ok_or(outside)?;
+    let mut slot = paper::slot_of(instance);
+    let b = blases.chunks_exact(SIZES[1]).nth(slot.blas.into()).ok_or(outside)?;
+    // a build of this one slot, on tables that draw nothing else; a flag is its bit, whatever the other bits
+    let (mut t, mut b) = (paper::tlas_of(t), paper::blas_of(b));
+    (t.flags, t.destroyed, t.scratch, t.most) = (t.flags & 2, 0, 1, u32::MAX);
+    (b.kind, b.flags, b.state, b.destroyed) = (0, b.flags & 2, 0, 0);
+    slot.blas = 0;
+    let packages = vec![Package { tlas: 0, slots: vec![Some(slot)] }];
+    let input = Input { alignment: 1, counter: 1, blases: vec![b], tlases: vec![t], packages, ..Input::default() };
+    let built = drive::build(&World::new(&input), &input).map_err(|r| (r.number, r.mark))?;
+    Ok(built.recorded.expect("scratch 1").staging)
+}
+
 // ---- the text ---------------------------------------------------------------------------------------------------------
 
 fn sheet_act(record: &[u8], recorded: Option<&Recorded>, tlas_count: usize) -> Decoded {
@@ -400,23 +419,38 @@ impl RustSide {
         instances: &mut [u8],
         used: u64,
     ) -> Result<u64, (u64, Mark)> {
-        let outside = (6, Mark::Paper);
-        let t = tlases.chunks_exact(SIZES[3]).nth(tlas.into()).ok_or(outside)?;
-        let mut slot = paper::slot_of(instance);
-        let b = blases.chunks_exact(SIZES[1]).nth(slot.blas.into()).ok_or(outside)?;
-        // a build of this one slot, on tables that draw nothing else; a flag is its bit, whatever the other bits
-        let (mut t, mut b) = (paper::tlas_of(t), paper::blas_of(b));
-        (t.flags, t.destroyed, t.scratch, t.most) = (t.flags & 2, 0, 1, u32::MAX);
-        (b.kind, b.flags, b.state, b.destroyed) = (0, b.flags & 2, 0, 0);
-        slot.blas = 0;
-        let packages = vec![Package { tlas: 0, slots: vec![Some(slot)] }];
-        let input = Input { alignment: 1, counter: 1, blases: vec![b], tlases: vec![t], packages, ..Input::default() };
-        let built = drive::build(&World::new(&input), &input).map_err(|r| (r.number, r.mark))?;
-        let staging = built.recorded.expect("scratch 1").staging;
+        let staging = instance_alone(tlases, blases, tlas, instance)?;
         let end = used.checked_add(64).filter(|&end| end <= instances.len() as u64).ok_or((39, Mark::Paper))?;
         instances[used as usize..end as usize].copy_from_slice(&staging);
         self.tally.part("instance bytes, in the Rust's order", Mark::StandIn, 64);
         Ok(end)
+    }
+
+    /// Each instance is a build of the Rust by itself, one after another; that they make one call is by the request. A refusal is its
+    /// number, its position and its mark.
+    fn append_many_inner(
+        &mut self,
+        tlases: &[u8],
+        blases: &[u8],
+        tlas: u16,
+        items: &[u8],
+        instances: &mut [u8],
+        used: u64,
+    ) -> Result<(u64, Mark), (u64, u64, Mark)> {
+        if usize::from(tlas) >= tlases.len() / SIZES[3] {
+            return Err((6, 0, Mark::Paper));
+        }
+        let mut staging = Vec::new();
+        for (k, item) in (0..).zip(items.chunks(55)) {
+            let item = item.try_into().map_err(|_| (5, k, Mark::Paper))?;
+            staging.extend(instance_alone(tlases, blases, tlas, item).map_err(|(number, mark)| (number, k, mark))?);
+        }
+        let end = used.checked_add(staging.len() as u64).filter(|&end| end <= instances.len() as u64);
+        let end = end.ok_or((39, 0, Mark::Paper))?;
+        instances[used as usize..end as usize].copy_from_slice(&staging);
+        self.tally.part("instance bytes, in the Rust's order", Mark::StandIn, staging.len());
+        // of no instances the Rust was asked nothing
+        Ok((end, if staging.is_empty() { Mark::Paper } else { Mark::Rust }))
     }
 }
 
@@ -504,6 +538,19 @@ impl Side for RustSide {
             Err((number, mark)) => {
                 self.tally.answer("append", number, mark);
                 [number, 0, 0, 0, 0, 0, used]
+            }
+        }
+    }
+
+    fn append_many(&mut self, tlases: &[u8], blases: &[u8], tlas: u16, items: &[u8], instances: &mut [u8], used: u64) -> [u64; 7] {
+        match self.append_many_inner(tlases, blases, tlas, items, instances, used) {
+            Ok((end, mark)) => {
+                self.tally.answer("many", 0, mark);
+                [0, 0, 0, 0, 0, 0, end]
+            }
+            Err((number, position, mark)) => {
+                self.tally.answer("many", number, mark);
+                [number, 0, position, 0, 0, 0, used]
             }
         }
     }

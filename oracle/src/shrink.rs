@@ -325,6 +325,57 @@ fn smaller_append(case: &Case, take: &mut dyn FnMut(Case) -> bool) -> bool {
     false
 }
 
+/// Fewer items, with as much less room too; then as of one that is appended.
+fn smaller_many(case: &Case, take: &mut dyn FnMut(Case) -> bool) -> bool {
+    let Case::Many { tlases, blases, tlas, items, room, used } = case else { return false };
+    macro_rules! with {
+        ($($field:ident: $value:expr),*) => {{
+            let mut c = case.clone();
+            if let Case::Many { $($field,)* .. } = &mut c { $(*$field = $value;)* }
+            offer!(take, c);
+        }};
+    }
+    for less in without_units(items, 55) {
+        let fewer = 64 * (items.len() / 55 - less.len() / 55);
+        with!(items: less.clone(), room: room.saturating_sub(fewer));
+        with!(items: less);
+    }
+    if items.len() % 55 != 0 {
+        with!(items: items[..items.len() - 1].to_vec());
+    }
+    for less in without_units(tlases, SIZES[TLASES]) {
+        with!(tlases: less);
+    }
+    for less in without_units(blases, SIZES[BLASES]) {
+        with!(blases: less);
+    }
+    for v in lower(*used) {
+        with!(used: v);
+    }
+    for v in lower(*room as u64) {
+        with!(room: v as usize);
+    }
+    for v in lower((*tlas).into()) {
+        with!(tlas: v as u16);
+    }
+    for i in (0..items.len()).filter(|&i| items[i] != 0) {
+        let mut less = items.clone();
+        less[i] = 0;
+        with!(items: less);
+    }
+    for i in (0..blases.len()).filter(|&i| blases[i] != 0) {
+        let mut less = blases.clone();
+        less[i] = 0;
+        with!(blases: less);
+    }
+    for i in (0..tlases.len()).filter(|&i| tlases[i] != 0) {
+        let mut less = tlases.clone();
+        less[i] = 0;
+        with!(tlases: less);
+    }
+    false
+}
+
 fn smaller_sheet(case: &Case, take: &mut dyn FnMut(Case) -> bool) -> bool {
     let Case::Sheet { bytes, room } = case else { return false };
     if *room != 0 {
@@ -375,6 +426,7 @@ pub fn shrink(mut case: Case, fails: &mut dyn FnMut(&Case) -> bool) -> Case {
             Case::Build { .. } => smaller_build(&case, &mut take),
             Case::Submit { .. } => smaller_submission(&case, &mut take),
             Case::Append { .. } => smaller_append(&case, &mut take),
+            Case::Many { .. } => smaller_many(&case, &mut take),
             Case::Groups { .. } => smaller_groups(&case, &mut take),
         };
         match found {

@@ -30,6 +30,8 @@ pub trait Side {
     /// number, E, three figures, bytes in use
     fn append(&mut self, tlases: &[u8], blases: &[u8], tlas: u16, instance: &[u8; 55], instances: &mut [u8], used: u64)
         -> [u64; 7];
+    /// as of `append`; `items` are 55 bytes each, end to end
+    fn append_many(&mut self, tlases: &[u8], blases: &[u8], tlas: u16, items: &[u8], instances: &mut [u8], used: u64) -> [u64; 7];
     /// number, bytes written
     fn report(&mut self, sheet: &[u8], out: &mut [u8]) -> [u64; 2];
     /// number, place, bytes written; of a side that has no sheet to write by a second reading of the request
@@ -97,6 +99,14 @@ pub enum Case {
         room: usize,
         used: u64,
     },
+    Many {
+        tlases: Vec<u8>,
+        blases: Vec<u8>,
+        tlas: u16,
+        items: Vec<u8>,
+        room: usize,
+        used: u64,
+    },
     Groups {
         bytes: Vec<u8>,
         room: usize,
@@ -121,6 +131,7 @@ impl Case {
             Case::Build { .. } => "build",
             Case::Submit { .. } => "submission",
             Case::Append { .. } => "append",
+            Case::Many { .. } => "many",
             Case::Groups { .. } => "groups",
         }
     }
@@ -210,6 +221,13 @@ impl Case {
                 let answer = side.append(&given.0, &given.1, *tlas, &given.2, &mut instances[..*room], *used);
                 let kept = given.0 == *tlases && given.1 == *blases && given.2 == *instance;
                 vec![part("append", &answer), part("instances", &instances), part("inputs kept", &[u64::from(kept)])]
+            }
+            Case::Many { tlases, blases, tlas, items, room, used } => {
+                let given = (tlases.clone(), blases.clone(), items.clone());
+                let mut instances = pattern_u8(*room);
+                let answer = side.append_many(&given.0, &given.1, *tlas, &given.2, &mut instances[..*room], *used);
+                let kept = given.0 == *tlases && given.1 == *blases && given.2 == *items;
+                vec![part("many", &answer), part("instances", &instances), part("inputs kept", &[u64::from(kept)])]
             }
             Case::Groups { bytes, room } => {
                 let given = bytes.clone();

@@ -64,7 +64,8 @@ fn place(number: u64, sort: u64) -> &'static [&'static str] {
     }
 }
 
-/// Whether a call can refuse with a number: 1 reads a sheet, 2 builds, 3 submits, 4 appends an instance, 5 writes a sheet, 6 opens groups.
+/// Whether a call can refuse with a number: 1 reads a sheet, 2 builds, 3 submits, 4 appends an instance, 5 writes a sheet, 6 opens groups,
+/// 7 appends many instances.
 fn refuses_with(call: u64, number: u64) -> bool {
     match call {
         1 => (1..=5).contains(&number),
@@ -73,12 +74,13 @@ fn refuses_with(call: u64, number: u64) -> bool {
         4 => matches!(number, 6 | 34 | 35 | 39),
         5 => matches!(number, 1..=5 | 39),
         6 => matches!(number, 2..=5 | 39 | 45 | 46),
+        7 => matches!(number, 5 | 6 | 34 | 35 | 39),
         _ => false,
     }
 }
 
 /// A refusal of a call. E of a sheet, read or written, is its place, of a submission the action and its kind, of groups the place, or the
-/// group and the item.
+/// group and the item, of many instances 0, which is not told, and the position.
 pub fn words(call: u64, number: u64, e: [u64; 2], f: [u64; 3]) -> String {
     if number == 0 {
         return "nothing is refused\n".into();
@@ -89,6 +91,9 @@ pub fn words(call: u64, number: u64, e: [u64; 2], f: [u64; 3]) -> String {
     match call {
         1 => line += &format!(", byte {}", e[0]),
         6 if number > 44 => line.extend(["group", "item"].iter().zip(&e).map(item)),
+        // at position 0 it may be the Tlas
+        7 if number == 6 && e[1] == 0 => line += ", Tlas or instance 0",
+        7 if number != 39 => line += &format!(", instance {}", e[1]),
         5 | 6 if number != 39 => line += &format!(", byte {}", e[0]),
         2 => {
             line.extend(place(number, f[0]).iter().zip(&e).map(item));

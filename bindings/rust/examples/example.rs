@@ -55,6 +55,13 @@ fn main() -> Result<(), Box<dyn std::error::Error>> {
     assert_eq!((used, &appended[..]), (64, &outputs.instances[..]));
     let full = append_instance(&tlases, &blases, TlasId(0), &instance, &mut appended, used).expect_err("it is full");
     assert_eq!((full.error, full.used), (BuildAccelerationStructureError::OutputTooShort, 64));
+    // and twice, by one call
+    let mut two = [0; 128];
+    let used = append_instances(&tlases, &blases, TlasId(0), &[instance; 2], &mut two, 0)?;
+    assert_eq!((used, &two[..64], &two[64..]), (128, &appended[..], &appended[..]));
+    let nowhere = TlasInstance { blas: BlasId(1), ..instance };
+    let refused = append_instances(&tlases, &blases, TlasId(0), &[instance, nowhere], &mut two, 0).expect_err("there is no Blas 1");
+    assert_eq!((refused.number, refused.position, refused.used), (6, Some(1), 0));
 
     // what was recorded, and a use; then the Blas is marked as built again, and the Tlas is older
     let mut indices = CommandIndices { active_submission_index: 0, next_acceleration_structure_build_command_index: 5 };

@@ -537,3 +537,58 @@ pub fn append_instance(
     let misfit = if a.number == 6 { outside() } else { None };
     Err(AppendRefused { number: a.number, error, figures: a.figures, misfit: misfit.map(Box::new), used })
 }
+
+/// Refused instances of one call; nothing was written.
+#[derive(Clone, Debug, PartialEq, Eq)]
+#[non_exhaustive]
+pub struct AppendManyRefused {
+    /// the paper's number
+    pub number: u64,
+    /// the same, with its figures
+    pub error: BuildAccelerationStructureError,
+    /// the refused instance, from 0; none where it is the Tlas or the room
+    pub position: Option<usize>,
+    /// as the library gives them
+    pub figures: [u64; 3],
+    /// for 6: the id
+    pub misfit: Option<Box<Misfit>>,
+    /// bytes in use, as before
+    pub used: usize,
+}
+
+impl fmt::Display for AppendManyRefused {
+    fn fmt(&self, f: &mut fmt::Formatter) -> fmt::Result {
+        words::write(f, Call::AppendMany, self.number, [0, self.position.map_or(0, wide)], self.figures)?;
+        self.misfit.as_ref().map_or(Ok(()), |misfit| write!(f, "; {misfit}"))
+    }
+}
+
+impl std::error::Error for AppendManyRefused {}
+
+/// Appends the 64 bytes of each instance to those in use: how many are in use then. All are judged first; what is written is what
+/// [`append_instance`] writes for one after the other. Instances that are bytes already are lent to [`raw::append_instances`].
+pub fn append_instances(
+    tlases: &[u8],
+    blases: &[u8],
+    tlas: TlasId,
+    items: &[TlasInstance],
+    instances: &mut [u8],
+    used: usize,
+) -> Result<usize, AppendManyRefused> {
+    let bytes: Vec<[u8; 55]> = items.iter().map(TlasInstance::to_bytes).collect();
+    let a = raw::append_instances(tlases, blases, tlas.0, bytes.as_flattened(), instances, wide(used));
+    if a.number == 0 {
+        return Ok(usize::try_from(a.used).unwrap_or(usize::MAX));
+    }
+    let error = BuildAccelerationStructureError::from_numbers(a.number, a.figures);
+    let tables = Tables { tlases, blases, ..Tables::default() };
+    // it is judged first, and refused at 0, where the first instance is too
+    let of_tlas = tables.outside(At::Call, "tlas", tlas.0.into(), 4);
+    let [_, position] = a.e;
+    let position = if of_tlas.is_some() || a.number == 39 { None } else { usize::try_from(position).ok() };
+    let misfit = match position.and_then(|k| Some((k, items.get(k)?))) {
+        Some((k, instance)) if a.number == 6 => tables.outside(At::Instance(k), "blas", instance.blas.0.into(), 2),
+        _ => of_tlas,
+    };
+    Err(AppendManyRefused { number: a.number, error, position, figures: a.figures, misfit: misfit.map(Box::new), used })
+}

@@ -47,8 +47,8 @@ mod submission;
 mod words;
 
 pub use building::{
-    AppendRefused, BuildAccelerationStructureError, BuildRefused, Built, LentOutputs, Outputs, Recorded, Resource, Tables, Written,
-    append_instance, build_acceleration_structures,
+    AppendManyRefused, AppendRefused, BuildAccelerationStructureError, BuildRefused, Built, LentOutputs, Outputs, Recorded,
+    Resource, Tables, Written, append_instance, append_instances, build_acceleration_structures,
 };
 pub use format::{Allowed, Field, KindOf, Section, Used};
 pub use groups::{MOST_GROUPS, OpenRefused, open_groups, opened_slots};

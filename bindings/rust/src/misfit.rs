@@ -128,6 +128,8 @@ pub enum At {
     Package(usize),
     /// a package's slot
     Slot(usize, usize),
+    /// one of many appended instances
+    Instance(usize),
     /// what a Tlas lists before a submission
     Start(usize),
     /// an action
@@ -182,6 +184,7 @@ impl fmt::Display for At {
             At::Geometry(entry, geometry) => write!(f, "entry {entry}, geometry {geometry}: "),
             At::Package(package) => write!(f, "package {package}: "),
             At::Slot(package, slot) => write!(f, "package {package}, slot {slot}: "),
+            At::Instance(instance) => write!(f, "instance {instance}: "),
             At::Start(tlas) => write!(f, "starting list of tlas {tlas}: "),
             At::Action(action) => write!(f, "action {action}: "),
             At::Listed(action, tlas) => write!(f, "action {action}, list of its tlas {tlas}: "),

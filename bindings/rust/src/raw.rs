@@ -68,13 +68,13 @@ pub struct Submitted {
     pub figures: [u64; 2],
 }
 
-/// `zakvind_appended`: what appending an instance came to.
+/// `zakvind_appended`: what appending instances came to.
 #[repr(C)]
 #[derive(Clone, Copy, Debug, PartialEq, Eq)]
 pub struct Appended {
     /// 0, or why it is refused
     pub number: u64,
-    /// 0, 0
+    /// 0, 0; of many instances 0 and a position
     pub e: [u64; 2],
     /// of the refusal
     pub figures: [u64; 3],
@@ -186,6 +186,18 @@ mod ffi {
             instances_len: usize,
             used: u64,
         ) -> Appended;
+        pub fn zakvind_append_instances(
+            tlases: *const u8,
+            tlases_len: usize,
+            blases: *const u8,
+            blases_len: usize,
+            tlas: u16,
+            items: *const u8,
+            items_len: usize,
+            instances: *mut u8,
+            instances_len: usize,
+            used: u64,
+        ) -> Appended;
         pub fn zakvind_report(sheet: *const u8, sheet_len: usize, out: *mut u8, out_len: usize) -> Reported;
         pub fn zakvind_explain(sheet: *const u8, sheet_len: usize, out: *mut u8, out_len: usize) -> Reported;
         pub fn zakvind_words(
@@ -291,6 +303,24 @@ pub fn append_instance(tlases: &[u8], blases: &[u8], tlas: u16, instance: &[u8; 
             blases.len(),
             tlas,
             instance,
+            instances.as_mut_ptr(),
+            instances.len(),
+            used,
+        )
+    }
+}
+
+/// `zakvind_append_instances`; `items` are 55 bytes each, end to end.
+pub fn append_instances(tlases: &[u8], blases: &[u8], tlas: u16, items: &[u8], instances: &mut [u8], used: u64) -> Appended {
+    unsafe {
+        ffi::zakvind_append_instances(
+            tlases.as_ptr(),
+            tlases.len(),
+            blases.as_ptr(),
+            blases.len(),
+            tlas,
+            items.as_ptr(),
+            items.len(),
             instances.as_mut_ptr(),
             instances.len(),
             used,

@@ -10,6 +10,7 @@ pub(crate) enum Call {
     Append,
     Write,
     Groups,
+    AppendMany,
 }
 
 impl Call {
@@ -21,6 +22,7 @@ impl Call {
             Call::Append => 4,
             Call::Write => 5,
             Call::Groups => 6,
+            Call::AppendMany => 7,
         }
     }
 }

@@ -1,4 +1,4 @@
--- Laws of judging packages: a cause of an instance at E, a slot whose Blas was judged, and a package from its parts.
+-- Laws of judging packages: a slot whose Blas was judged, and a package from its parts.
 use Prim.Native.Nat.{ℕ, zero, suc, _+_, _-_, _*_, _/_, _<_}
 use native.Mathlib.Omega.{arith}
 use mathlib.Core.Path.{_≡_, refl, ap, _∙_}
@@ -7,27 +7,14 @@ use mathlib.Core.List.{List, []}
 use lib.ListN.{length}
 use lib.Dec.{ltb}
 use borrow.Author.Tests.{lt-leb}
-use Rattle.ray_tracing.specs.declared.BuildAccelerationStructureError.{BuildAccelerationStructureError}
 use Rattle.ray_tracing.specs.declared.Tlas.{Tlas}
 use Rattle.ray_tracing.specs.Guard.{refuse}
-use Rattle.ray_tracing.specs.Causes.{Cause, cause, bare, buildCause}
+use Rattle.ray_tracing.specs.Causes.{cause}
 use Rattle.ray_tracing.specs.Mentions.{blasMention}
 use Rattle.ray_tracing.specs.Instances.{presentOf, slotMention, slotRule}
 use Rattle.ray_tracing.specs.Layout.{size}
 use Rattle.ray_tracing.specs.Plan.{Tables, Verdict, passed, refused, on, _or_, atE, firstOf, slotCount, slotPresent, slotBlas, tlasOfPackage, judgePackage}
 use Rattle.ray_tracing.specs.Parts.{forPackages}
-use Rattle.ray_tracing.proofs.Causes.{positive}
-
-pub instance-none : (e f n : ℕ) → bare 0 ≡ bare n → passed ≡ atE e f n
-instance-none e f n h =
-    let z : 0 ≡ n = ap (λ (c : Cause). c .number) h in
-    ap (atE e f) z
-
-pub instance-some : (c : BuildAccelerationStructureError) (e f n : ℕ) → buildCause c ≡ bare n → refused e f (buildCause c) ≡ atE e f n
-instance-some c e f zero h =
-    let z : buildCause c .number ≡ 0 = ap (λ (c : Cause). c .number) h in
-    absurd (omega (arith, positive c))
-instance-some c e f (suc n) h = ap (refused e f) h
 
 -- a slot whose Blas is inside if it is present is not refused for it
 pub slot-named :

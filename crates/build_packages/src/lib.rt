@@ -1,8 +1,8 @@
 // Packages in turn: 34 and 35 of their present slots, then 36.
 use instance::check_slot;
+use instance::instance_verdict;
 use instance::present_of;
 use ray_tracing::BuildAccelerationStructureError;
-use ray_tracing::CheckedInstance;
 use ray_tracing::PACKAGE_SIZE;
 use ray_tracing::SLOT_SIZE;
 use ray_tracing::Tlas;
@@ -16,22 +16,12 @@ ghost use Prim.Native.Nat.{ℕ, _+_, _*_, _/_, _≤_, _<_};
 ghost use lib.ListN.{length};
 ghost use lib.Dec.{ltb};
 ghost use Rattle.ray_tracing.specs.Layout.{size};
-ghost use Rattle.ray_tracing.specs.Causes.{cause, bare};
+ghost use Rattle.ray_tracing.specs.Causes.{cause};
 ghost use Rattle.ray_tracing.specs.Instances.{slotMention, slotRule};
-ghost use Rattle.ray_tracing.specs.Code.{instanceCause, verdictOf};
+ghost use Rattle.ray_tracing.specs.Code.{verdictOf};
 ghost use Rattle.ray_tracing.specs.Plan.{refused, on, atE, firstOf, slotCount, judgePackage, judgePackages, packageOf};
 ghost use Rattle.ray_tracing.specs.Parts.{forPackages};
 ghost use Rattle.build_packages.specs.Within.{PackagesInside};
-
-// What judging an instance finds, at E.
-fn instance_verdict(c: CheckedInstance, e: usize, f: usize) -> Verdict
-    ensures { λ r. ⌜ ((n : ℕ) → instanceCause c ≡ bare n → verdictOf r ≡ atE e f n) ⌝ }
-{
-    match c {
-        CheckedInstance::Fine => Verdict::Passed,
-        CheckedInstance::Refused(cause) => Verdict::Refused(cause, e, f),
-    }
-}
 
 // The j-th slot of package p, which is slot s: 34, 35.
 fn judge_slot(tlas: Tlas, blases: &[u8], slots: &[u8], p: usize, j: usize, s: usize) -> Verdict

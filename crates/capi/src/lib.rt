@@ -1,6 +1,7 @@
 // The entry points as C functions of a static library: each forwards, and says its answer in numbers.
 use build::build_acceleration_structures;
 use capi_answers::append_answer;
+use capi_answers::append_many_answer;
 use capi_answers::build_answer;
 use capi_answers::open_answer;
 use capi_answers::report_answer;
@@ -10,6 +11,7 @@ use explain::explain;
 use groups::open_groups;
 use instance::append_instance;
 use instance_bytes::instance_from;
+use instance_many::append_instances;
 use ray_tracing::AppendAnswer;
 use ray_tracing::BuildAnswer;
 use ray_tracing::CommandIndices;
@@ -31,11 +33,12 @@ ghost use Rattle.ray_tracing.specs.Canonical.{WritesSheetAs};
 ghost use Rattle.ray_tracing.specs.Groups.{OpensGroupsAs};
 ghost use Rattle.ray_tracing.specs.Plan.{tablesOf, outputsOf, BuildsAs};
 ghost use Rattle.ray_tracing.specs.Instances.{instanceFrom, AppendsAs};
+ghost use Rattle.ray_tracing.specs.AppendMany.{AppendsManyAs};
 ghost use Rattle.ray_tracing.specs.Submission.{buffersOf, pieceOf, Validates};
 ghost use Rattle.ray_tracing.specs.Report as Report;
 ghost use Rattle.ray_tracing.specs.Report.{PutsAs};
 ghost use Rattle.ray_tracing.specs.Explain.{explained, wordsOf};
-ghost use Rattle.ray_tracing.specs.Answers.{sheetAnswer, writeAnswer, openAnswer, builtAnswer, appendAnswer, reportAnswer};
+ghost use Rattle.ray_tracing.specs.Answers.{sheetAnswer, writeAnswer, openAnswer, builtAnswer, appendAnswer, appendManyAnswer, reportAnswer};
 
 #[no_mangle]
 pub extern "C" fn zakvind_read_sheet(sheet: &[u8]) -> SheetAnswer
@@ -156,6 +159,27 @@ pub extern "C" fn zakvind_append_instance(
     )
 }
 
+// `items` are 55 bytes each, end to end, each as zakvind_append_instance takes one.
+#[no_mangle]
+pub extern "C" fn zakvind_append_instances(
+    tlases: &[u8],
+    blases: &[u8],
+    tlas: u16,
+    items: &[u8],
+    instances: &mut [u8],
+    used: u64,
+) -> AppendAnswer
+    ensures { λ r. ⌜ AppendsManyAs (appendManyAnswer used)
+        (now (tlases .entry)) (now (blases .entry)) (record { 0 = tlas }) (now (items .entry))
+        (now (instances .entry)) used r (now (instances .exit)) ⌝ }
+{
+    let used = used as usize;
+    append_many_answer(
+        used,
+        append_instances(tlases, blases, TlasId(tlas), items, instances, used),
+    )
+}
+
 #[no_mangle]
 pub extern "C" fn zakvind_report(sheet: &[u8], out: &mut [u8]) -> ReportAnswer
     ensures { λ r. ⌜ PutsAs reportAnswer (Report.report (now (sheet .entry))) (now (out .entry)) r (now (out .exit)) ⌝ }
@@ -171,8 +195,8 @@ pub extern "C" fn zakvind_explain(sheet: &[u8], out: &mut [u8]) -> ReportAnswer
 }
 
 // The words of a call's refusal: the call is 1 of zakvind_read_sheet (e0 its place), 2 of zakvind_build, 3 of zakvind_submit (e0 its
-// action, e1 the action's kind, 0 where it is not known), 4 of zakvind_append_instance, 5 of zakvind_write_sheet (e0 its place) or 6 of
-// zakvind_open_groups (e0 its place, of 45 and 46 e0 its group and e1 its item).
+// action, e1 the action's kind, 0 where it is not known), 4 of zakvind_append_instance, 5 of zakvind_write_sheet (e0 its place), 6 of
+// zakvind_open_groups (e0 its place, of 45 and 46 e0 its group and e1 its item) or 7 of zakvind_append_instances (e1 its position).
 #[no_mangle]
 pub extern "C" fn zakvind_words(
     call: u64,

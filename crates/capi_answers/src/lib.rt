@@ -4,6 +4,7 @@ use causes::build_figures;
 use causes::sheet_number;
 use ray_tracing::AppendAnswer;
 use ray_tracing::Appended;
+use ray_tracing::AppendedMany;
 use ray_tracing::BuildAnswer;
 use ray_tracing::Built;
 use ray_tracing::GroupsOpened;
@@ -23,9 +24,10 @@ ghost use Rattle.ray_tracing.specs.Canonical.{unwritten, writingOf};
 ghost use Rattle.ray_tracing.specs.Groups.{unopened, openingOf};
 ghost use Rattle.ray_tracing.specs.Plan.{recorded, nothing-recorded, not-built, buildingOf};
 ghost use Rattle.ray_tracing.specs.Instances.{appendedOf};
+ghost use Rattle.ray_tracing.specs.AppendMany.{allInUse, noneAppended, appendedManyOf};
 ghost use Rattle.ray_tracing.specs.Report.{reportedOf};
 ghost use Rattle.causes.specs.Figures.{causeOf};
-ghost use Rattle.ray_tracing.specs.Answers.{sheetAnswer, writeAnswer, openAnswer, builtAnswer, appendAnswer, reportAnswer};
+ghost use Rattle.ray_tracing.specs.Answers.{sheetAnswer, writeAnswer, openAnswer, builtAnswer, appendAnswer, appendManyAnswer, reportAnswer};
 
 fn sheet_accepted(x: Sheet) -> SheetAnswer
     ensures { λ r. ⌜ r ≡ sheetAnswer (accepted x) ⌝ }
@@ -226,32 +228,50 @@ pub fn build_answer(built: Built) -> BuildAnswer
     }
 }
 
-// `used` bytes were in use before, and still are where it is refused.
+fn append_done(n: usize) -> AppendAnswer
+    ensures { λ r. ⌜ r ≡ appendManyAnswer 0 (allInUse n) ⌝ }
+{
+    AppendAnswer {
+        number: 0,
+        e0: 0,
+        e1: 0,
+        f0: 0,
+        f1: 0,
+        f2: 0,
+        used: n as u64,
+    }
+}
+
+// `used` bytes were in use before, and still are.
+fn append_refused(figures: Figures, e: usize, f: usize, used: usize) -> AppendAnswer
+    ensures { λ r. ⌜ r ≡ appendManyAnswer used (noneAppended e f (causeOf figures)) ⌝ }
+{
+    AppendAnswer {
+        number: figures.number,
+        e0: e as u64,
+        e1: f as u64,
+        f0: figures.first,
+        f1: figures.second,
+        f2: figures.third,
+        used: used as u64,
+    }
+}
+
 pub fn append_answer(used: usize, appended: Appended) -> AppendAnswer
     ensures { λ r. ⌜ r ≡ appendAnswer used (appendedOf appended) ⌝ }
 {
     match appended {
-        Appended::InUse(n) => AppendAnswer {
-            number: 0,
-            e0: 0,
-            e1: 0,
-            f0: 0,
-            f1: 0,
-            f2: 0,
-            used: n as u64,
-        },
-        Appended::Refused(e) => {
-            let figures = build_figures(e);
-            AppendAnswer {
-                number: figures.number,
-                e0: 0,
-                e1: 0,
-                f0: figures.first,
-                f1: figures.second,
-                f2: figures.third,
-                used: used as u64,
-            }
-        }
+        Appended::InUse(n) => append_done(n),
+        Appended::Refused(e) => append_refused(build_figures(e), 0, 0, used),
+    }
+}
+
+pub fn append_many_answer(used: usize, appended: AppendedMany) -> AppendAnswer
+    ensures { λ r. ⌜ r ≡ appendManyAnswer used (appendedManyOf appended) ⌝ }
+{
+    match appended {
+        AppendedMany::InUse(n) => append_done(n),
+        AppendedMany::Refused(cause, e, f) => append_refused(build_figures(cause), e, f, used),
     }
 }
 

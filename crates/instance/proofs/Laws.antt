@@ -7,7 +7,7 @@ use lib.ListN.{length}
 use lib.Seq.{sets}
 use mathlib.Core.Bool.{Bool, true, false}
 use lib.Dec.{leb}
-use borrow.Author.Tests.{le-leb, lt-leb, lt-ltb, le-ltb, leb-true, leb-false, eq-eqb, ne-eqb}
+use borrow.Author.Tests.{le-leb, lt-leb, lt-ltb, leb-true, leb-false, eq-eqb, ne-eqb}
 use Rattle.ray_tracing.specs.declared.Tlas.{Tlas}
 use Rattle.ray_tracing.specs.declared.Blas.{Blas}
 use Rattle.ray_tracing.specs.declared.TlasId.{TlasId}
@@ -20,6 +20,8 @@ use Rattle.ray_tracing.specs.Records.{fieldAt}
 use Rattle.ray_tracing.specs.Causes.{Cause, bare, buildCause}
 use Rattle.ray_tracing.specs.Mentions.{_else_, blasMention, tlasMention, blasOf, tlasOf}
 use Rattle.ray_tracing.specs.Instances.{instanceBytes, returnsVertices, instanceRule, namedInstanceRule, addressFor, slotMention, slotRule, Appending, inUse, refused, namedTlasRule, roomRule, outcome, appendRule, bytesAfter, appendBytes}
+use Rattle.ray_tracing.specs.Plan as plan
+use Rattle.ray_tracing.specs.Plan.{passed, atE}
 use Rattle.ray_tracing.specs.Code.{instanceCause}
 use Rattle.ray_tracing.proofs.Causes.{positive}
 use Rattle.ray_tracing.proofs.Mentions.{mention-inside, else-zero}
@@ -76,6 +78,30 @@ module _ (blases s : List ℕ) (at : ℕ) where
       narrow = rule-narrow tlas (blasOf blases (fieldAt 8 s at 1)) (fieldAt 8 s at 2) (slot-present tlas ∙ r);
     }
 
+-- ---- an instance
+
+-- what was judged of one may be written
+pub inside-narrow :
+    (tlas : Tlas) (blases : List ℕ) (i : TlasInstance)
+    → namedInstanceRule tlas blases i ≡ 0
+    → (i .blas .0 < length blases / 28) × (i .«custom_data» < 2 ^ 24)
+inside-narrow tlas blases i e =
+    let b = blasOf blases (i .blas .0) in
+    let both = else-zero (blasMention blases (i .blas .0)) (instanceRule tlas b (i .«custom_data»)) e in
+    (mention-inside 28 blases (i .blas .0) (both .0), rule-narrow tlas b (i .«custom_data») (both .1))
+
+-- at E
+pub instance-none : (e f n : ℕ) → bare 0 ≡ bare n → passed ≡ atE e f n
+instance-none e f n h =
+    let z : 0 ≡ n = ap (λ (c : Cause). c .number) h in
+    ap (atE e f) z
+
+pub instance-some : (c : BuildAccelerationStructureError) (e f n : ℕ) → buildCause c ≡ bare n → plan.refused e f (buildCause c) ≡ atE e f n
+instance-some c e f zero h =
+    let z : buildCause c .number ≡ 0 = ap (λ (c : Cause). c .number) h in
+    absurd (omega (arith, positive c))
+instance-some c e f (suc n) h = ap (plan.refused e f) h
+
 -- ---- appending one instance
 
 pub fine-is : (r : CheckedInstance) (n : ℕ) → instanceCause r ≡ bare n → r ≡ Fine → n ≡ 0
@@ -101,17 +127,9 @@ module _ (tlases blases : List ℕ) (tlas : TlasId) (i : TlasInstance) (instance
     unfolding namedTlasRule
     named-inside =
         let t = tlasOf tlases (tlas .0) in
-        let b = blasOf blases (i .blas .0) in
-        let after = else-zero (tlasMention tlases (tlas .0)) (namedInstanceRule t blases i) fine .1 in
-        let both = else-zero (blasMention blases (i .blas .0)) (instanceRule t b (i .«custom_data»)) after in
-        (mention-inside 28 blases (i .blas .0) (both .0), rule-narrow t b (i .«custom_data») (both .1))
+        inside-narrow t blases i (else-zero (tlasMention tlases (tlas .0)) (namedInstanceRule t blases i) fine .1)
 
     pub when-short : length instances < used + 64
         → (refused (bare 39) ≡ appendRule tlases blases tlas i (length instances) used) × (instances ≡ appendBytes tlases blases tlas i instances used)
     unfolding appendRule appendBytes refuse
     when-short h = let t = lt-ltb (length instances) (used + 64) h in (rw (fine, t), rw (fine, t))
-
-    pub when-done : used + 64 ≤ length instances
-        → (inUse (used + 64) ≡ appendRule tlases blases tlas i (length instances) used) × (sets instances used (instanceBytes i (addressFor blases i)) ≡ appendBytes tlases blases tlas i instances used)
-    unfolding appendRule appendBytes refuse
-    when-done h = let t = le-ltb (length instances) (used + 64) h in (rw (fine, t), rw (fine, t))

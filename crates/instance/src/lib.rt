@@ -14,6 +14,7 @@ use ray_tracing::TLAS_SIZE;
 use ray_tracing::Tlas;
 use ray_tracing::TlasId;
 use ray_tracing::TlasInstance;
+use ray_tracing::Verdict;
 use records::blas_at;
 use records::blas_mention;
 use records::tlas_at;
@@ -24,15 +25,17 @@ use wire::u32_at;
 use wire::u64_at;
 ghost use mathlib.Core.Path.{_≡_};
 ghost use mathlib.Core.Bool.{cond};
-ghost use Prim.Native.Nat.{ℕ, _+_, _*_, _/_, _≤_, _<_};
+ghost use Prim.Native.Nat.{ℕ, _+_, _-_, _*_, _/_, _^_, _≤_, _<_};
 ghost use lib.ListN.{length};
 ghost use lib.Seq.{sets};
 ghost use Rattle.ray_tracing.specs.Layout.{size};
 ghost use Rattle.ray_tracing.specs.Records.{fieldAt};
 ghost use Rattle.ray_tracing.specs.Causes.{bare};
-ghost use Rattle.ray_tracing.specs.Mentions.{blasOf};
-ghost use Rattle.ray_tracing.specs.Code.{mentionOf, instanceCause};
-ghost use Rattle.ray_tracing.specs.Instances.{returnsVertices, instanceRule, namedInstanceRule, namedTlasRule, appendedOf, Appends};
+ghost use Rattle.ray_tracing.specs.Mentions.{_else_, blasMention, blasOf};
+ghost use Rattle.ray_tracing.specs.Plan.{atE};
+ghost use Rattle.ray_tracing.specs.Code.{mentionOf, instanceCause, verdictOf};
+ghost use Rattle.ray_tracing.specs.Instances.{returnsVertices, instanceRule, namedTlasRule, appendedOf, Appends};
+ghost use Rattle.ray_tracing.specs.Instances.{instanceFrom, instanceBytes, addressFor};
 ghost use Rattle.ray_tracing.specs.Instances.{presentAt, presentOf, slotMention, slotRule, slotBytes, slotsBytes};
 ghost use Rattle.instance.specs.Writable.{Writable};
 
@@ -70,19 +73,18 @@ fn check_instance(tlas: Tlas, blas: Blas, custom_data: u32) -> CheckedInstance
 }
 
 // 6, 34, 35.
-fn check_named_instance(tlas: Tlas, blases: &[u8], instance: TlasInstance) -> CheckedInstance
-    ensures { λ r. ⌜ instanceCause r ≡ bare (namedInstanceRule tlas (now (blases .entry)) instance) ⌝ }
+pub fn check_named(tlas: Tlas, blases: &[u8], blas: BlasId, custom_data: u32) -> CheckedInstance
+    ensures { λ r. ⌜
+        instanceCause r
+        ≡ bare
+        (blasMention (now (blases .entry)) (blas .0) else instanceRule tlas (blasOf (now (blases .entry)) (blas .0)) «custom_data»)
+        ⌝ }
 {
-    let blas = instance.blas;
     let id = blas.0 as usize;
     let mentioned = blas_mention(blases, blas);
     match mentioned {
         Mentioned::InvalidResource => { CheckedInstance::Refused(Error::InvalidResource) }
-        Mentioned::Inside => check_instance(
-            tlas,
-            blas_at(blases, id * BLAS_SIZE),
-            instance.custom_data,
-        ),
+        Mentioned::Inside => check_instance(tlas, blas_at(blases, id * BLAS_SIZE), custom_data),
     }
 }
 
@@ -99,10 +101,11 @@ fn check_named_tlas(
     let mentioned = tlas_mention(tlases, tlas);
     match mentioned {
         Mentioned::InvalidResource => { CheckedInstance::Refused(Error::InvalidResource) }
-        Mentioned::Inside => check_named_instance(
+        Mentioned::Inside => check_named(
             tlas_at(tlases, id * TLAS_SIZE),
             blases,
-            instance,
+            instance.blas,
+            instance.custom_data,
         ),
     }
 }
@@ -145,6 +148,16 @@ pub fn append_instance(
     }
 }
 
+// What judging an instance finds, at E.
+pub fn instance_verdict(c: CheckedInstance, e: usize, f: usize) -> Verdict
+    ensures { λ r. ⌜ ((n : ℕ) → instanceCause c ≡ bare n → verdictOf r ≡ atE e f n) ⌝ }
+{
+    match c {
+        CheckedInstance::Fine => Verdict::Passed,
+        CheckedInstance::Refused(cause) => Verdict::Refused(cause, e, f),
+    }
+}
+
 // What a build judges of the slot at a place: 6 for its Blas, and later 34, 35.
 pub fn slot_mention(blases: &[u8], slots: &[u8], at: usize) -> Mentioned
     requires { ⌜ at + size 8 ≤ length (now slots) ⌝ }
@@ -171,6 +184,22 @@ pub fn check_slot(tlas: Tlas, blases: &[u8], slots: &[u8], at: usize) -> Checked
     )
 }
 
+// Writes the 64 bytes of the instance whose Blas field is at a place, from index end on.
+pub fn put_from(blases: &[u8], s: &[u8], at: usize, instances: &mut [u8], end: usize)
+    requires { ⌜ (at + (size 8 - 1) ≤ length (now s)) × (end + 64 ≤ length (now instances)) ⌝ }
+    requires { ⌜ instanceFrom (now s) at .blas .0 < length (now blases) / size 2 ⌝ }
+    requires { ⌜ instanceFrom (now s) at .«custom_data» < 2 ^ 24 ⌝ }
+    ensures { λ _. ⌜
+        now (instances .exit)
+        ≡ sets (now (instances .entry)) end
+        (instanceBytes (instanceFrom (now (s .entry)) at) (addressFor (now (blases .entry)) (instanceFrom (now (s .entry)) at)))
+        ⌝ }
+{
+    let instance = instance_from(s, at);
+    let address = address_of(blases, instance.blas);
+    put_instance(instances, end, instance, address);
+}
+
 // Writes what the slot at a place writes, from index end on, and returns the index past it.
 fn put_slot(blases: &[u8], slots: &[u8], at: usize, instances: &mut [u8], end: usize) -> usize
     requires { ⌜
@@ -186,9 +215,7 @@ fn put_slot(blases: &[u8], slots: &[u8], at: usize, instances: &mut [u8], end: u
     if u8_at(slots, at) == 0 {
         return end;
     }
-    let instance = instance_from(slots, at + 1);
-    let address = address_of(blases, instance.blas);
-    put_instance(instances, end, instance, address);
+    put_from(blases, slots, at + 1, instances, end);
     end + INSTANCE_SIZE
 }
 

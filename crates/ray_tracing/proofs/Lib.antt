@@ -21,6 +21,7 @@ pub mod Judging
 pub mod Sound
 pub mod Cuts
 pub mod Verdicts
+pub mod AppendMany
 pub mod Inside
 pub mod Accepted
 pub mod Builds

@@ -61,6 +61,32 @@ each-passed f (suc n) i e (suc k) h =
     let m : i + 1 + k ≡ i + suc k = omega arith in
     rw m at (each-passed f n (i + 1) (or-passed (f i) _ e .1) k (le-of-suc-le-suc h))
 
+pub all-passed : (f : ℕ → Verdict) (n i : ℕ) → ((k : ℕ) → k < n → f (i + k) ≡ passed) → firstOf f i n ≡ passed
+unfolding firstOf
+all-passed f zero i h = refl
+all-passed f (suc n) i h =
+    let here : f i ≡ passed = rw add-zero at (h 0 (omega arith)) in
+    rw here (all-passed f n (i + 1) (λ k l. let e : i + suc k ≡ i + 1 + k = omega arith in rw e at (h (suc k) (omega arith))))
+
+pub first-refused :
+    (f : ℕ → Verdict) (e g : ℕ) (c : Cause) (n i k : ℕ)
+    → k < n
+    → ((j : ℕ) → j < k → f (i + j) ≡ passed)
+    → f (i + k) ≡ refused e g c
+    → firstOf f i n ≡ refused e g c
+unfolding firstOf
+first-refused f e g c zero i k l h r = absurd (not-suc-le-zero l)
+first-refused f e g c (suc n) i zero l h r =
+    let here : f i ≡ refused e g c = rw add-zero at r in
+    rw here
+first-refused f e g c (suc n) i (suc k) l h r =
+    let here : f i ≡ passed = rw add-zero at (h 0 (omega arith)) in
+    let there : i + suc k ≡ i + 1 + k = omega arith in
+    rw here
+    (first-refused f e g c n (i + 1) k (omega arith)
+    (λ j m. let e : i + suc j ≡ i + 1 + j = omega arith in rw e at (h (suc j) (omega arith)))
+    (rw there at r))
+
 -- as a loop goes: what is left from i on is the whole
 
 pub from-start : (f : ℕ → Verdict) (n : ℕ) → firstOf f 0 (n - 0) ≡ firstOf f 0 n

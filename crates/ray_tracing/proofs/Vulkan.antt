@@ -1,25 +1,29 @@
 -- Vulkan's bytes of what callers find: in the output that a recorded build leaves, each present slot's 64 bytes are those of the
--- VkAccelerationStructureInstanceKHR that the slot says; and so are an appended instance's.
+-- VkAccelerationStructureInstanceKHR that the slot says; and so are an appended instance's, and those of each of many.
 use Prim.Native.Nat.{ℕ, zero, suc, _+_, _-_, _*_, _^_, _<_, _≤_}
 use native.Mathlib.Nat.{zero-add}
 use native.Mathlib.Omega.{arith}
 use mathlib.Core.Path.{_≡_, refl, sym, ap, _∙_}
 use mathlib.Core.Bool.{Bool, true, false, not, _||_, _&&_, cond}
 use mathlib.Core.List.{List, [], _∷_, _++_, append-assoc}
-use lib.Dec.{leb, ltb, eqb}
+use lib.Dec.{leb}
 use lib.ListN.{length, take, drop, getD, length-append, length-take, length-drop, List·getD-append}
-use lib.Seq.{sets, sets-eq, take-append-le, drop-append-le, take-at, drop-at, length-take-le}
-use borrow.Author.Tests.{leb-false, ltb-false}
+use lib.Seq.{sets, sets-eq, take-append-le, drop-append-le, drop-drop, take-at, drop-at, length-take-le}
+use borrow.Author.Tests.{leb-false}
 use Rattle.wire.specs.Wire.{leAt, leBytes}
 use Rattle.ray_tracing.specs.declared.Written.{Written}
+use Rattle.ray_tracing.specs.declared.Tlas.{Tlas}
 use Rattle.ray_tracing.specs.declared.TlasId.{TlasId}
 use Rattle.ray_tracing.specs.declared.TlasInstance.{TlasInstance}
 use Rattle.ray_tracing.specs.Guard.{refuse}
 use Rattle.ray_tracing.specs.Layout.{size}
 use Rattle.ray_tracing.specs.Records.{fieldAt}
-use Rattle.ray_tracing.specs.Mentions.{_else_, blasMention, tlasMention}
-use Rattle.ray_tracing.specs.Instances.{VkAccelerationStructureInstanceKHR, field, columns, vkBytes, vkInstance, vkSlot, patterns, wordsAt, instanceFrom, instanceAt, addressFor, instanceBytes, presentOf, Appending, inUse, refused, namedTlasRule, roomRule, outcome, appendRule, bytesAfter, appendBytes, Appends}
+use Rattle.ray_tracing.specs.Mentions.{blasMention, tlasMention, tlasOf}
+use Rattle.ray_tracing.specs.Instances.{VkAccelerationStructureInstanceKHR, field, columns, vkBytes, vkInstance, vkSlot, patterns, wordsAt, instanceFrom, instanceAt, addressFor, instanceBytes, presentOf, Appending, inUse, namedInstanceRule, namedTlasRule, bytesAfter, appendBytes, Appends}
 use Rattle.ray_tracing.specs.Plan.{Tables, passed, recordsIn, slotCount, slotPresent, judgeSlot, judgePackage, judgePackages, Outputs, planOf, short, Building, recorded, build, written, leaves, Builds}
+use Rattle.ray_tracing.specs.AppendMany.{lentSize, lentCount, lentInstance, manyBytes, allInUse, AppendsMany}
+use Rattle.ray_tracing.proofs.Mentions.{else-zero}
+use Rattle.ray_tracing.proofs.AppendMany.{accepted-alone, accepted-wrote, many-length, many-at}
 use Rattle.ray_tracing.proofs.Verdicts.{or-passed, none-atE, none-cond, each-passed, each-drawing}
 use Rattle.ray_tracing.proofs.Inside.{Inside, slotsBefore, slots-none, slots-more}
 use Rattle.ray_tracing.proofs.Instances.{Below, vk-bytes, bytes-length, from-lengths, from-length, patterns-read, getD-wordsAt, slot-custom}
@@ -138,34 +142,17 @@ module _ (x : Tables) (o : Outputs) (n : ℕ) (w : Written) (left : Outputs) (bu
 
 -- ---- an appended instance
 
-else-zero : (m n : ℕ) → (m else n) ≡ 0 → (m ≡ 0) × (n ≡ 0)
-else-zero zero n e = (refl, e)
-else-zero (suc m) n e = absurd (omega arith)
-
-outcome-zero : (k used m : ℕ) → inUse m ≡ outcome k used → k ≡ 0
-outcome-zero zero used m e = refl
-outcome-zero (suc k) used m e = let z : _≡_ {A = ℕ} 0 1 = cc in absurd (omega arith)
-
-room-zero : (room used : ℕ) → roomRule room used ≡ 0 → used + 64 ≤ room
-unfolding refuse
-room-zero room used e = ltb-false room (used + 64) (go (ltb room (used + 64)) e)
-  where
-    go : (t : Bool) → _≡_ {A = ℕ} (refuse t 39 0) 0 → t ≡ false
-    go false e = refl
-    go true e = let z : _≡_ {A = ℕ} 39 0 = e in absurd (omega arith)
+rule-narrow : (t : Tlas) (blases : List ℕ) (i : TlasInstance) → namedInstanceRule t blases i ≡ 0 → i .«custom_data» < 2 ^ 24
+rule-narrow t blases i e = leb-false (2 ^ 24) (i .«custom_data») (first-none _ _ (else-zero (blasMention blases (i .blas .0)) _ e .1))
 
 module _ (tlases blases : List ℕ) (tlas : TlasId) (i : TlasInstance) (b : List ℕ) (used m : ℕ) (left : List ℕ)
     (appends : Appends tlases blases tlas i b used (inUse m) left) (h : length (i .transform) ≡ 12) (g : length (i .«nan_bits») ≡ 12) where
-  not-refused : (namedTlasRule tlases blases tlas i ≡ 0) × (roomRule (length b) used ≡ 0)
-  unfolding appendRule
-  not-refused = else-zero (namedTlasRule tlases blases tlas i) (roomRule (length b) used) (outcome-zero _ used m (appends .answer))
+  not-refused : (namedTlasRule tlases blases tlas i ≡ 0) × (used + 64 ≤ length b)
+  not-refused = accepted-alone tlases blases tlas i (length b) used (appends .answer)
 
   narrow : i .«custom_data» < 2 ^ 24
   unfolding namedTlasRule
-  narrow =
-      let named = else-zero (tlasMention tlases (tlas .0)) _ (not-refused .0) in
-      let judged = else-zero (blasMention blases (i .blas .0)) _ (named .1) in
-      leb-false (2 ^ 24) (i .«custom_data») (first-none _ _ (judged .1))
+  narrow = rule-narrow (tlasOf tlases (tlas .0)) blases i (else-zero (tlasMention tlases (tlas .0)) _ (not-refused .0) .1)
 
   left-as : left ≡ sets b used (instanceBytes i (addressFor blases i))
   unfolding appendBytes
@@ -176,9 +163,34 @@ module _ (tlases blases : List ℕ) (tlas : TlasId) (i : TlasInstance) (b : List
   append-vk =
       let bytes = instanceBytes i (addressFor blases i) in
       let long : length bytes ≡ 64 = bytes-length i (addressFor blases i) h g in
-      let fits = room-zero (length b) used (not-refused .1) in
+      let fits = not-refused .1 in
       let rest = drop (used + length bytes) b in
       ap (λ (l : List ℕ). take 64 (drop used l)) (left-as ∙ sets-eq bytes b used (omega arith) ∙ append-assoc (take used b) bytes rest)
       ∙ ap (take 64) (drop-at (take used b) (bytes ++ rest) used (length-take-le used b (omega arith)))
       ∙ take-at bytes rest 64 long
       ∙ vk-bytes i (addressFor blases i) h g narrow
+
+-- ---- many in one call
+
+module _ (tlases blases : List ℕ) (tlas : TlasId) (items b : List ℕ) (used m : ℕ) (left : List ℕ) (appends : AppendsMany tlases blases tlas items b used (allInUse m) left) where
+  -- the k-th's 64 bytes, past those that were in use
+  pub append-many-vk :
+      (k : ℕ)
+      → k < lentCount items
+      → take 64 (drop (used + 64 * k) left) ≡ vkBytes (vkInstance (lentInstance items k) (addressFor blases (lentInstance items k)))
+  append-many-vk k h =
+      let i = lentInstance items k in
+      let n = lentCount items in
+      let new = manyBytes blases items n in
+      let done = accepted-wrote tlases blases tlas items b used appends refl in
+      let fits = done .0 .fits in
+      let long : length new ≡ 64 * n = many-length blases items n in
+      let rest = drop (used + length new) b in
+      let lengths = from-lengths items (k * lentSize) in
+      ap (λ (l : List ℕ). take 64 (drop (used + 64 * k) l)) (done .2 ∙ sets-eq new b used (omega arith) ∙ append-assoc (take used b) new rest)
+      ∙ ap (take 64) (sym (drop-drop (64 * k) used (take used b ++ (new ++ rest))))
+      ∙ ap (λ (l : List ℕ). take 64 (drop (64 * k) l)) (drop-at (take used b) (new ++ rest) used (length-take-le used b (omega arith)))
+      ∙ ap (take 64) (drop-append-le (64 * k) new rest (omega arith))
+      ∙ take-append-le 64 (drop (64 * k) new) rest (omega (arith, length-drop (64 * k) new))
+      ∙ many-at blases items n k h
+      ∙ vk-bytes i (addressFor blases i) (lengths .0) (lengths .1) (rule-narrow (tlasOf tlases (tlas .0)) blases i (done .0 .each k h))

@@ -3,6 +3,7 @@ use Prim.Native.Nat.{ℕ}
 use Rattle.ray_tracing.specs.Reading.{Reading, accepted, rejected}
 use Rattle.ray_tracing.specs.Plan.{Building, recorded, nothing-recorded, not-built}
 use Rattle.ray_tracing.specs.Instances.{Appending, inUse, refused}
+use Rattle.ray_tracing.specs.AppendMany.{AppendingMany, allInUse, noneAppended}
 use Rattle.ray_tracing.specs.Report.{Reporting}
 use Rattle.ray_tracing.specs.Canonical.{Writing, wrote, unwritten}
 use Rattle.ray_tracing.specs.Groups.{Opening, opened, unopened}
@@ -140,6 +141,12 @@ abbrev pub appendAnswer : ℕ → Appending → AppendAnswer
 appendAnswer used (inUse n) = record { number = 0; e0 = 0; e1 = 0; f0 = 0; f1 = 0; f2 = 0; used = n }
 appendAnswer used (refused c) =
     record { number = c .number; e0 = 0; e1 = 0; f0 = c .first; f1 = c .second; f2 = c .third; used = used }
+
+-- of many: E is 0 and the position
+abbrev pub appendManyAnswer : ℕ → AppendingMany → AppendAnswer
+appendManyAnswer used (allInUse n) = record { number = 0; e0 = 0; e1 = 0; f0 = 0; f1 = 0; f2 = 0; used = n }
+appendManyAnswer used (noneAppended e f c) =
+    record { number = c .number; e0 = e; e1 = f; f0 = c .first; f1 = c .second; f2 = c .third; used = used }
 
 -- "lent output too short | 39", or how many bytes were written
 abbrev pub reportAnswer : Reporting → ReportAnswer

@@ -196,7 +196,7 @@ abbrev pub between : ℕ → ℕ → ℕ → Bool
 between a b n = leb a n && leb n b
 
 -- the numbers that a call can refuse with: 1 reads a sheet, 2 builds, 3 submits, 4 appends an instance, 5 writes a sheet,
--- 6 opens groups
+-- 6 opens groups, 7 appends many instances
 abbrev pub refusesWith : ℕ → ℕ → Bool
 refusesWith call n =
     cond (eqb call 1) (between 1 5 n)
@@ -204,7 +204,8 @@ refusesWith call n =
     (cond (eqb call 3) (between 4 6 n || (eqb n 21 || between 39 44 n))
     (cond (eqb call 4) (eqb n 6 || (between 34 35 n || eqb n 39))
     (cond (eqb call 5) (between 1 5 n || eqb n 39)
-    (cond (eqb call 6) (between 2 5 n || (eqb n 39 || between 45 46 n)) false)))))
+    (cond (eqb call 6) (between 2 5 n || (eqb n 39 || between 45 46 n))
+    (cond (eqb call 7) (between 5 6 n || (between 34 35 n || eqb n 39)) false))))))
 
 -- "Errors: the reader's first, then 39", which has no place
 abbrev pub writeLine : ℕ → ℕ → List ℕ
@@ -214,15 +215,20 @@ writeLine e n = cond (between 1 5 n) (explanation (of-sheet n e)) (refusedLine n
 abbrev pub openLine : ℕ → ℕ → ℕ → List ℕ
 openLine e f n = cond (between 45 46 n) (refusedLine n ("group" is e ∷ "item" is f ∷ [])) (writeLine e n)
 
+-- "E being 0 and its position", "6 for the Tlas, with 0, 0", which the first one's own 6 has too; 39 has none
+abbrev pub manyItems : ℕ → ℕ → List Item
+manyItems f n = cond (eqb n 39) [] (cond (eqb n 6 && eqb f 0) ("Tlas or instance" is f ∷ []) ("instance" is f ∷ []))
+
 -- the line, by what e and f are in that call: a place; E; the action and its kind, 0 where it is not known; nothing; a place; a place, or
--- a group and its item
+-- a group and its item; 0 and a position
 abbrev pub callLine : ℕ → ℕ → ℕ → Cause → List ℕ
 callLine call e f c =
     cond (eqb call 1) (explanation (of-sheet (c .number) e))
     (cond (eqb call 2) (explanation (of-build e f c))
     (cond (eqb call 3) (explanation (of-action e f c))
     (cond (eqb call 4) (refusedLine (c .number) [])
-    (cond (eqb call 5) (writeLine e (c .number)) (openLine e f (c .number))))))
+    (cond (eqb call 5) (writeLine e (c .number))
+    (cond (eqb call 6) (openLine e f (c .number)) (refusedLine (c .number) (manyItems f (c .number))))))))
 
 abbrev pub noSuchCause : ℕ → List ℕ
 noSuchCause n = ascii "refused " ++ (decimal n ++ ascii ": no such cause\n")

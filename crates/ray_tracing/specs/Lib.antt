@@ -9,6 +9,7 @@ pub mod Boxes
 pub mod Mentions
 pub mod Instances
 pub mod Plan
+pub mod AppendMany
 pub mod Submission
 pub mod History
 pub mod Claim

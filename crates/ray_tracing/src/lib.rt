@@ -25,6 +25,9 @@ pub const ACTION_SIZE: usize = 3;
 
 pub const INSTANCE_SIZE: usize = 64;
 
+// An instance as it is lent to be appended: a slot's fields after its present byte.
+pub const LENT_SIZE: usize = 55;
+
 // An index or a transform buffer that is none.
 pub const NO_BUFFER: u16 = 65535;
 
@@ -275,10 +278,16 @@ pub enum CheckedInstance {
     Refused(BuildAccelerationStructureError),
 }
 
-// What appending instances gives: the bytes in use now, or the refusal.
+// What appending an instance gives: the bytes in use now, or the refusal.
 pub enum Appended {
     InUse(usize),
     Refused(BuildAccelerationStructureError),
+}
+
+// What appending many instances gives: the bytes in use now, or the refusal and E, which is 0 and an instance's position.
+pub enum AppendedMany {
+    InUse(usize),
+    Refused(BuildAccelerationStructureError, usize, usize),
 }
 
 // What a Blas declares for a geometry, if it does.
@@ -428,7 +437,7 @@ pub struct BuildAnswer {
     pub lists: u64,
 }
 
-// What appending an instance came to: number, E and figures; and how many bytes are in use.
+// What appending instances came to: number, E and figures; and how many bytes are in use.
 #[repr(C)]
 pub struct AppendAnswer {
     pub number: u64,

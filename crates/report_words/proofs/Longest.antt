@@ -24,6 +24,7 @@ use Rattle.ray_tracing.specs.Explain.{
   placeItems,
   figureItems,
   actionItems,
+  manyItems,
   itemBytes,
   refusedLine,
   explanation,
@@ -101,6 +102,9 @@ kind-most kind = search (word, lit≤) depth 12
 action-most : (kind : ℕ) (c : Cause) → widest (actionItems kind c) ≤ 70
 action-most kind c = search (either, lit≤) depth 12
 
+many-most : (f n : ℕ) → widest (manyItems f n) ≤ 39
+many-most f n = search (either, lit≤) depth 9
+
 -- ---- the whole
 
 pub explanation-most : (r : Refusal) → length (explanation r) ≤ longestExplanation
@@ -147,7 +151,8 @@ words-most call n e f x y z =
     (each-within (eqb call 2) _ _ (explanation-most (of-build e f (cause n x y z)))
     (each-within (eqb call 3) _ _ (explanation-most (of-action e f (cause n x y z)))
     (each-within (eqb call 4) _ _ plain-most
-    (each-within (eqb call 5) _ _ sheet-most (each-within (between 45 46 n) _ _ group-most sheet-most))))))
+    (each-within (eqb call 5) _ _ sheet-most
+    (each-within (eqb call 6) _ _ (each-within (between 45 46 n) _ _ group-most sheet-most) instance-most))))))
     (simp length-append (omega (arith, digits-most 20 n))))
   where
     plain-most : length (refusedLine n []) ≤ longestExplanation
@@ -158,3 +163,7 @@ words-most call n e f x y z =
 
     group-most : length (refusedLine n ("group" is e ∷ "item" is f ∷ [])) ≤ longestExplanation
     group-most = simp length-append (omega (arith, digits-most 20 n, cause-most n, items-most ("group" is e ∷ "item" is f ∷ [])))
+
+    instance-most : length (refusedLine n (manyItems f n)) ≤ longestExplanation
+    instance-most =
+        simp length-append (omega (arith, digits-most 20 n, cause-most n, items-most (manyItems f n), many-most f n))

@@ -20,6 +20,7 @@ use Rattle.ray_tracing.specs.Explain.{
   placeItems,
   figureItems,
   actionItems,
+  manyItems,
   itemBytes,
   refusedLine,
   explanation,
@@ -43,6 +44,7 @@ use Rattle.report_words.specs.Lines.{
   appendPlace,
   writePlace,
   openPlace,
+  manyPlace,
   linePlace,
 }
 
@@ -334,40 +336,84 @@ module _ (call e f x y z : ℕ) where
       go true h = rw (or-last (between 2 5 n) (eqb n 39)) (bounded Open 45 2 46 n refl open-lines h ∙ line-is n ("group" is e ∷ "item" is f ∷ []))
       go false h = rw (or-none (eqb n 39)) (by-byte n)
 
+  abbrev Many : ℕ → Type 0
+  Many n = at n (manyPlace n f) ≡ begun n (manyItems f n)
+
+  -- the Tlas's or the first one's
+  many-6 : Many 6
+  unfolding letter filled pastLines lines digits numberFor
+  many-6 = go (eqb f 0)
+    where
+      go : (b : Bool) → at 6 (cond b 65 62) ≡ begun 6 (cond b ("Tlas or instance" is f ∷ []) ("instance" is f ∷ []))
+      go true = refl
+      go false = refl
+
+  many-first : AllFrom Many 5 2
+  unfolding letter filled pastLines lines digits numberFor
+  many-first = refl and many-6 and end
+
+  many-others : AllFrom Many 34 2
+  unfolding letter filled pastLines lines digits numberFor
+  many-others = refl and refl and end
+
+  many :
+      (n : ℕ)
+      → at n (manyPlace n f)
+      ≡ cond (between 5 6 n || (between 34 35 n || eqb n 39)) (refusedLine n (manyItems f n)) (noSuchCause n)
+  many n = go (between 5 6 n) refl (between 34 35 n) refl (eqb n 39) refl
+    where
+      go :
+          (a : Bool)
+          → between 5 6 n ≡ a
+          → (b : Bool)
+          → between 34 35 n ≡ b
+          → (c : Bool)
+          → eqb n 39 ≡ c
+          → at n (manyPlace n f) ≡ cond (a || (b || c)) (refusedLine n (manyItems f n)) (noSuchCause n)
+      go true h b i c k = bounded Many 5 2 6 n refl many-first h ∙ line-is n (manyItems f n)
+      go false h true i c k = bounded Many 34 2 35 n refl many-others i ∙ line-is n (manyItems f n)
+      go false h false i true k = rw (eqb-true n 39 k) (append-39 ∙ line-is 39 [])
+      go false h false i false k = rw (ne-eqb n 6 (outside 5 6 6 n refl h), i, h, k) (unknown n)
+
   -- ---- the table by call
 
   pub words-are : (n : ℕ) → at n (linePlace call n f x) ≡ wordsOf call n e f x y z
   unfolding wordsOf
-  words-are n = some (eqb n 0) _ _ (each (eqb call 1) (eqb call 2) (eqb call 3) (eqb call 4) (eqb call 5) (eqb call 6))
+  words-are n = some (eqb n 0) _ _ (each (eqb call 1) (eqb call 2) (eqb call 3) (eqb call 4) (eqb call 5) (eqb call 6) (eqb call 7))
     where
       each :
-          (a b c d g h : Bool)
+          (a b c d g h i : Bool)
           → at n
           (cond a (cond (between 1 5 n) (n + 1) 1)
           (cond b (buildPlace n x)
-          (cond c (actionPlace n f) (cond d (appendPlace n) (cond g (writePlace n) (cond h (openPlace n) 1))))))
+          (cond c (actionPlace n f)
+          (cond d (appendPlace n) (cond g (writePlace n) (cond h (openPlace n) (cond i (manyPlace n f) 1)))))))
           ≡ cond
           (cond a (between 1 5 n)
           (cond b (between 4 6 n || between 10 39 n)
           (cond c (between 4 6 n || (eqb n 21 || between 39 44 n))
           (cond d (eqb n 6 || (between 34 35 n || eqb n 39))
           (cond g (between 1 5 n || eqb n 39)
-          (cond h (between 2 5 n || (eqb n 39 || between 45 46 n)) false))))))
+          (cond h (between 2 5 n || (eqb n 39 || between 45 46 n))
+          (cond i (between 5 6 n || (between 34 35 n || eqb n 39)) false)))))))
           (cond a (explanation (of-sheet n e))
           (cond b (explanation (of-build e f (cause n x y z)))
           (cond c (explanation (of-action e f (cause n x y z)))
           (cond d (refusedLine n [])
           (cond g (cond (between 1 5 n) (explanation (of-sheet n e)) (refusedLine n []))
+          (cond h
           (cond (between 45 46 n) (refusedLine n ("group" is e ∷ "item" is f ∷ []))
-          (cond (between 1 5 n) (explanation (of-sheet n e)) (refusedLine n []))))))))
+          (cond (between 1 5 n) (explanation (of-sheet n e)) (refusedLine n [])))
+          (refusedLine n (manyItems f n))))))))
           (noSuchCause n)
-      each true b c d g h = sheet n
-      each false true c d g h = build n
-      each false false true d g h = submit n
-      each false false false true g h = append n
-      each false false false false true h = write n
-      each false false false false false true = opening n
-      each false false false false false false = unknown n
+      each true b c d g h i = sheet n
+      each false true c d g h i = build n
+      each false false true d g h i = submit n
+      each false false false true g h i = append n
+      each false false false false true h i = write n
+      each false false false false false true i = opening n
+      each false false false false false false true = many n
+      each false false false false false false false = unknown n
 
       some : (b : Bool) (p : ℕ) (t : List ℕ) → at n p ≡ t → at n (cond b 0 p) ≡ cond b (explanation nothing) t
       some true p t h = none n

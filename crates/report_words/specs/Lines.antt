@@ -1,11 +1,11 @@
 -- The lines of which the words of a refusal are one, with letters where its numbers stand. Assumes nothing.
 use Prim.Native.Nat.{ℕ, zero, suc, _+_}
-use mathlib.Core.Bool.{Bool, _||_, cond}
-use mathlib.Core.List.{List, [], _∷_, _++_}
+use mathlib.Core.Bool.{Bool, _||_, _&&_, cond}
+use mathlib.Core.List.{List, [], _∷_, _++_, map}
 use lib.Dec.{eqb}
 use Rattle.ray_tracing.specs.Causes.{cause}
 use Rattle.ray_tracing.specs.Report.{decimal, ascii}
-use Rattle.ray_tracing.specs.Explain.{Item, _is_, causeWords, kindWords, placeItems, figureItems, actionItems, between}
+use Rattle.ray_tracing.specs.Explain.{Item, _is_, causeWords, kindWords, placeItems, figureItems, actionItems, manyItems, between}
 use Rattle.report_words.specs.declared.Refusal.{Refusal}
 
 -- A line, filled
@@ -69,8 +69,12 @@ appendLine n = lineOf n []
 abbrev pub openText : ℕ → List ℕ
 openText n = lineOf n ("group" is 69 ∷ "item" is 70 ∷ [])
 
+-- of one of many, at a position that is its letter F or 0
+abbrev pub manyText : ℕ → ℕ → List ℕ
+manyText f n = lineOf n (map (λ i. i .word is 70) (manyItems f n))
+
 -- none and any number; a sheet's; a build's, and 21 of a Blas, of a Tlas, of no sort; a submission's, with 42 of a Build, and 42 of
--- a use and of no kind; an append's; a group's
+-- a use and of no kind; an append's; a group's; an append's of many, and 6 at position 0
 unfoldable pub lines : List ℕ
 lines =
     ascii "nothing is refused\nrefused #: no such cause\n"
@@ -88,7 +92,10 @@ lines =
     ++ (actionLine 2 42
     ++ (actionLine 3 42
     ++ (appendLine 6
-    ++ (linesFrom appendLine 34 2 ++ (appendLine 39 ++ linesFrom openText 45 2))))))))))))))))
+    ++ (linesFrom appendLine 34 2
+    ++ (appendLine 39
+    ++ (linesFrom openText 45 2
+    ++ (linesFrom (manyText 70) 5 2 ++ (linesFrom (manyText 70) 34 2 ++ manyText 0 6)))))))))))))))))))
 
 -- Which line
 
@@ -120,7 +127,13 @@ writePlace n = cond (between 1 5 n) (n + 1) (cond (eqb n 39) 58 1)
 abbrev pub openPlace : ℕ → ℕ
 openPlace n = cond (between 45 46 n) (n + 14) (cond (between 2 5 n) (n + 1) (cond (eqb n 39) 58 1))
 
--- of a call's number: by the kind, which is its F, and the sort, which is its X
+-- by the position; of 39 the append's
+abbrev pub manyPlace : ℕ → ℕ → ℕ
+manyPlace n f =
+    cond (eqb n 6 && eqb f 0) 65
+    (cond (between 34 35 n) (n + 29) (cond (between 5 6 n) (n + 56) (cond (eqb n 39) 58 1)))
+
+-- of a call's number: by the kind or the position, which is its F, and the sort, which is its X
 abbrev pub linePlace : ℕ → ℕ → ℕ → ℕ → ℕ
 linePlace call n kind sort =
     cond (eqb n 0) 0
@@ -128,4 +141,5 @@ linePlace call n kind sort =
     (cond (eqb call 2) (buildPlace n sort)
     (cond (eqb call 3) (actionPlace n kind)
     (cond (eqb call 4) (appendPlace n)
-    (cond (eqb call 5) (writePlace n) (cond (eqb call 6) (openPlace n) 1))))))
+    (cond (eqb call 5) (writePlace n)
+    (cond (eqb call 6) (openPlace n) (cond (eqb call 7) (manyPlace n kind) 1)))))))

@@ -7,6 +7,7 @@ use ray_tracing::BuildAccelerationStructureError;
 use ray_tracing::Reported;
 use ray_tracing::SheetError;
 use ray_tracing::ValidateAsActionsError;
+use ray_tracing::both;
 use ray_tracing::either;
 use ray_tracing::pick;
 use report_text::put;
@@ -26,10 +27,11 @@ ghost use Rattle.report_words.specs.Refused.{refusedBy, wordsIn, Refuses
 ghost use Rattle.report_words.specs.Longest.{longestExplanation};
 ghost use Rattle.report_words.specs.Lines.{numberFor, isNumber, letter, filled, pastLines, lines};
 ghost use Rattle.report_words.specs.Lines.{destroyedPlace, buildPlace, unbuiltPlace, actionPlace};
-ghost use Rattle.report_words.specs.Lines.{appendPlace, writePlace, openPlace, linePlace};
+ghost use Rattle.report_words.specs.Lines.{appendPlace, writePlace, openPlace, manyPlace, linePlace};
 
-// The call that refuses, by its number (1 reads a sheet, 2 builds, 3 submits, 4 appends an instance, 5 writes a sheet, 6 opens groups), the
-// refusal's number, place and figures; an action is in E and its kind in F, a group in E and its item in F. Number 0 refuses nothing.
+// The call that refuses, by its number (1 reads a sheet, 2 builds, 3 submits, 4 appends an instance, 5 writes a sheet, 6 opens groups, 7 appends many
+// instances), the refusal's number, place and figures; an action is in E and its kind in F, a group in E and its item in F, an instance's
+// position in F. Number 0 refuses nothing.
 pub struct Refusal {
     pub call: u64,
     pub number: u64,
@@ -253,6 +255,11 @@ refused 35: Tlas returns vertices, Blas does not
 refused 39: lent output too short
 refused 45: count 0, or a group that is not an earlier one, group E, item F
 refused 46: more than 512 slots, group E, item F
+refused 5: value outside its field, instance F
+refused 6: id outside its table, instance F
+refused 34: custom data from 2^24 on, instance F
+refused 35: Tlas returns vertices, Blas does not, instance F
+refused 6: id outside its table, Tlas or instance F
 ";
     put_line_of(out, at, lines, n, v)
 }
@@ -323,10 +330,19 @@ fn open_place(n: u64) -> usize
     shifted(n, 45, 46, 14, other)
 }
 
+// By the position, which of the first one's 6 may be the Tlas's.
+fn many_place(n: u64, f: u64) -> usize
+    ensures { λ r. ⌜ r ≡ manyPlace n f ⌝ }
+{
+    let other = shifted(n, 5, 6, 56, pick(n == 39, 58, 1));
+    pick(both(n == 6, f == 0), 65, shifted(n, 34, 35, 29, other))
+}
+
 fn line_place(call: u64, n: u64, kind: u64, sort: u64) -> usize
     ensures { λ r. ⌜ r ≡ linePlace call n kind sort ⌝ }
 {
-    let sixth = pick(call == 6, open_place(n), 1);
+    let seventh = pick(call == 7, many_place(n, kind), 1);
+    let sixth = pick(call == 6, open_place(n), seventh);
     let fifth = pick(call == 5, write_place(n), sixth);
     let fourth = pick(call == 4, append_place(n), fifth);
     let third = pick(call == 3, action_place(n, kind), fourth);

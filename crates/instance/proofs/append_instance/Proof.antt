@@ -4,7 +4,8 @@ use mathlib.Core.Path.{ap, _∙_}
 use Prim.Native.Nat.{ℕ}
 use lib.Seq.{sets}
 use Rattle.ray_tracing.specs.Instances.{instanceBytes}
-use Rattle.instance.proofs.Laws.{fine-is, named-inside, when-refused, when-short, when-done}
+use Rattle.ray_tracing.proofs.AppendMany.{when-done}
+use Rattle.instance.proofs.Laws.{fine-is, named-inside, when-refused, when-short}
 use borrow.Author.Needs.{needs}
 use Rattle.instance.proofs.append_instance.Statement.{statement}
 use Rattle.instance.proofs.append_instance.Tie as tie

@@ -19,7 +19,7 @@ returns c = ap bare (else-first _ _ 5 (sym (c .before .before .tlas-mention .ens
 
 returns-2 : tie.Need-returns-2
 unfolding namedTlasRule
-returns-2 c = let start = c .before .before .before .before .before .before .before .before in c .check-named-instance .ensures ∙ ap (λ (t : Tlas). bare (namedInstanceRule t (start .args .blases .now) (start .args .instance))) (c .before .tlas-at .ensures) ∙ ap bare (else-rest _ _ (sym (c .before .before .before .before .tlas-mention .ensures) ∙ ap mentionOf (c .before .before .enum-told2 .given .1)))
+returns-2 c = let start = c .before .before .before .before .before .before .before .before in c .check-named .ensures ∙ ap (λ (t : Tlas). bare (namedInstanceRule t (start .args .blases .now) (start .args .instance))) (c .before .tlas-at .ensures) ∙ ap bare (else-rest _ _ (sym (c .before .before .before .before .tlas-mention .ensures) ∙ ap mentionOf (c .before .before .enum-told2 .given .1)))
 
 pub check-named-tlas-spec : {M : Type 1} → statement M
 check-named-tlas-spec =

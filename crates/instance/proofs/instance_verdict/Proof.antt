@@ -1,10 +1,10 @@
--- `build_packages::instance_verdict` meets its contract: a cause has a number above 0.
+-- `instance::instance_verdict` meets its contract: a cause has a number above 0.
 use mathlib.Core.Path.{sym, ap, _∙_}
 use Rattle.ray_tracing.specs.Code.{instanceCause}
-use Rattle.build_packages.proofs.Laws.{instance-none, instance-some}
+use Rattle.instance.proofs.Laws.{instance-none, instance-some}
 use borrow.Author.Needs.{needs}
-use Rattle.build_packages.proofs.instance_verdict.Statement.{statement}
-use Rattle.build_packages.proofs.instance_verdict.Tie as tie
+use Rattle.instance.proofs.instance_verdict.Statement.{statement}
+use Rattle.instance.proofs.instance_verdict.Tie as tie
 
 returns : tie.Need-returns
 returns c = λ n h. instance-none _ _ n (sym (ap instanceCause (c .enum-told .given .1)) ∙ h)
