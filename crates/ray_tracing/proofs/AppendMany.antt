@@ -130,7 +130,7 @@ module _ (tlases blases : List ℕ) (tlas : TlasId) (items : List ℕ) where
         let three = or-passed _ _ (two .1) in
         record {
           mentioned = none-atE 0 0 _ (one .0);
-          each = λ k h. none-atE 0 k _ (rw zero-add at (each-passed (judgeInstance tlases blases tlas items) (lentCount items) 0 (two .0) k h));
+          each = λ k h. none-atE _ _ _ (rw zero-add at (each-passed (judgeInstance tlases blases tlas items) (lentCount items) 0 (two .0) k h));
           whole = on-passed _ 0 _ (bare 5) (three .0);
           fits = ltb-false _ _ (on-passed _ 0 0 (bare 39) (three .1));
         }
@@ -139,7 +139,7 @@ module _ (tlases blases : List ℕ) (tlas : TlasId) (items : List ℕ) where
     unfolding judgeMany
     judged-so x =
         let each : firstOf (judgeInstance tlases blases tlas items) 0 (lentCount items) ≡ passed =
-        all-passed (judgeInstance tlases blases tlas items) (lentCount items) 0 (λ k h. rw zero-add (ap (atE 0 k) (x .each k h))) in
+        all-passed (judgeInstance tlases blases tlas items) (lentCount items) 0 (λ k h. rw zero-add (ap (atE _ _) (x .each k h))) in
         rw (x .mentioned, each, x .whole, le-ltb room (used + 64 * lentCount items) (x .fits))
 
     pub fine-alone : Fine room used → (k : ℕ) → k < lentCount items → alone k ≡ 0
@@ -175,7 +175,7 @@ module _ (tlases blases : List ℕ) (tlas : TlasId) (items : List ℕ) where
           let same : named k ≡ alone k = else-rest _ _ e in
           let found : firstOf (judgeInstance tlases blases tlas items) 0 (lentCount items) ≡ plan.refused 0 k (bare (alone k)) =
           first-refused (judgeInstance tlases blases tlas items) 0 k (bare (alone k)) (lentCount items) 0 k l
-          (λ j h. rw zero-add (ap (atE 0 j) (alone-both j (before j h) .1)))
+          (λ j h. rw zero-add (ap (atE _ _) (alone-both j (before j h) .1)))
           (rw zero-add (at-k (alone k) same bad)) in
           ap (λ (m : ℕ). atE 0 0 m or firstOf (judgeInstance tlases blases tlas items) 0 (lentCount items) or rest) e
           ∙ ap (λ (v : Verdict). v or rest) found
@@ -313,42 +313,46 @@ module _
         one-by-one tlases blases tlas items b used (lentCount items) (fine-alone tlases blases tlas items (length b) used fine) (fine .fits)
         ∙ (λ j. record { answer = inUse (sym (done .1) j); bytes = sym (done .2) j })
 
-    -- "With room for all, where each would be accepted alone": it is accepted
-    pub accepted-all :
-        0 < lentCount items
-        → length items % lentSize ≡ 0
-        → used + 64 * lentCount items ≤ length b
-        → ((k : ℕ) → k < lentCount items → inUse (used + 64) ≡ appendRule tlases blases tlas (lentInstance items k) (length b) used)
-        → a ≡ allInUse (used + 64 * lentCount items)
-    unfolding appendManyRule
-    accepted-all some whole fits each =
-        let alone : (k : ℕ) → k < lentCount items → (tlasMention tlases (tlas .0) ≡ 0) × (named tlases blases tlas items k ≡ 0) =
-        λ k h. alone-both tlases blases tlas items k (accepted-alone tlases blases tlas (lentInstance items k) (length b) used (each k h) .0) in
-        let fine : Fine tlases blases tlas items (length b) used = record {
-          mentioned = alone 0 some .0;
-          each = λ k h. alone k h .1;
-          whole = rw (eq-eqb (length items % lentSize) 0 whole);
-          fits = fits;
-        } in
-        call .answer ∙ ap (λ (v : Verdict). manyOutcome v (used + 64 * lentCount items)) (judged-so tlases blases tlas items (length b) used fine)
+    -- a call for one, lent any bytes that have room for it
+    module _ (room taken : ℕ) (has : taken + 64 ≤ room) where
+      abbrev by-itself : ℕ → Appending
+      by-itself k = appendRule tlases blases tlas (lentInstance items k) room taken
 
-    -- "otherwise it gives the refusal that the first bad one would give alone, E being 0 and its position"
-    pub first-bad :
-        {c : Cause} (k : ℕ)
-        → k < lentCount items
-        → used + 64 ≤ length b
-        → ((j : ℕ) → j < k → inUse (used + 64) ≡ appendRule tlases blases tlas (lentInstance items j) (length b) used)
-        → refused c ≡ appendRule tlases blases tlas (lentInstance items k) (length b) used
-        → a ≡ noneAppended 0 k c
-    unfolding appendManyRule
-    first-bad {c} k l fits before bad =
-        let alone = refused-alone tlases blases tlas (lentInstance items k) (length b) used fits bad in
-        call .answer
-        ∙ ap (λ (v : Verdict). manyOutcome v (used + 64 * lentCount items))
-        (bad-found tlases blases tlas items (length b) used k l
-        (λ j h. accepted-alone tlases blases tlas (lentInstance items j) (length b) used (before j h) .0)
-        (alone .1))
-        ∙ ap (noneAppended 0 k) (sym (alone .0))
+      -- "With room for all, where each would be accepted alone": it is accepted
+      pub accepted-all :
+          0 < lentCount items
+          → length items % lentSize ≡ 0
+          → used + 64 * lentCount items ≤ length b
+          → ((k : ℕ) → k < lentCount items → inUse (taken + 64) ≡ by-itself k)
+          → a ≡ allInUse (used + 64 * lentCount items)
+      unfolding appendManyRule
+      accepted-all some whole fits each =
+          let both : (k : ℕ) → k < lentCount items → (tlasMention tlases (tlas .0) ≡ 0) × (named tlases blases tlas items k ≡ 0) =
+          λ k h. alone-both tlases blases tlas items k (accepted-alone tlases blases tlas (lentInstance items k) room taken (each k h) .0) in
+          let fine : Fine tlases blases tlas items (length b) used = record {
+            mentioned = both 0 some .0;
+            each = λ k h. both k h .1;
+            whole = rw (eq-eqb (length items % lentSize) 0 whole);
+            fits = fits;
+          } in
+          call .answer ∙ ap (λ (v : Verdict). manyOutcome v (used + 64 * lentCount items)) (judged-so tlases blases tlas items (length b) used fine)
+
+      -- "otherwise it gives the refusal that the first bad one would give alone, E being 0 and its position"
+      pub first-bad :
+          {c : Cause} (k : ℕ)
+          → k < lentCount items
+          → ((j : ℕ) → j < k → inUse (taken + 64) ≡ by-itself j)
+          → refused c ≡ by-itself k
+          → a ≡ noneAppended 0 k c
+      unfolding appendManyRule
+      first-bad {c} k l before bad =
+          let one = refused-alone tlases blases tlas (lentInstance items k) room taken has bad in
+          call .answer
+          ∙ ap (λ (v : Verdict). manyOutcome v (used + 64 * lentCount items))
+          (bad-found tlases blases tlas items (length b) used k l
+          (λ j h. accepted-alone tlases blases tlas (lentInstance items j) room taken (before j h) .0)
+          (one .1))
+          ∙ ap (noneAppended 0 k) (sym (one .0))
 
     -- one is a call for one
     pub one-alone :
