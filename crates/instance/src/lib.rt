@@ -25,7 +25,7 @@ use wire::u32_at;
 use wire::u64_at;
 ghost use mathlib.Core.Path.{_≡_};
 ghost use mathlib.Core.Bool.{cond};
-ghost use Prim.Native.Nat.{ℕ, _+_, _-_, _*_, _/_, _^_, _≤_, _<_};
+ghost use Prim.Native.Nat.{ℕ, _+_, _*_, _/_, _≤_, _<_};
 ghost use lib.ListN.{length};
 ghost use lib.Seq.{sets};
 ghost use Rattle.ray_tracing.specs.Layout.{size};
@@ -35,7 +35,6 @@ ghost use Rattle.ray_tracing.specs.Mentions.{_else_, blasMention, blasOf};
 ghost use Rattle.ray_tracing.specs.Plan.{atE};
 ghost use Rattle.ray_tracing.specs.Code.{mentionOf, instanceCause, verdictOf};
 ghost use Rattle.ray_tracing.specs.Instances.{returnsVertices, instanceRule, namedTlasRule, appendedOf, Appends};
-ghost use Rattle.ray_tracing.specs.Instances.{instanceFrom, instanceBytes, addressFor};
 ghost use Rattle.ray_tracing.specs.Instances.{presentAt, presentOf, slotMention, slotRule, slotBytes, slotsBytes};
 ghost use Rattle.instance.specs.Writable.{Writable};
 
@@ -110,7 +109,7 @@ fn check_named_tlas(
     }
 }
 
-fn address_of(blases: &[u8], blas: BlasId) -> u64
+pub fn address_of(blases: &[u8], blas: BlasId) -> u64
     requires { ⌜ blas .0 < length (now blases) / size 2 ⌝ }
     ensures { λ r. ⌜ r ≡ blasOf (now (blases .entry)) (blas .0) .handle ⌝ }
 {
@@ -184,22 +183,6 @@ pub fn check_slot(tlas: Tlas, blases: &[u8], slots: &[u8], at: usize) -> Checked
     )
 }
 
-// Writes the 64 bytes of the instance whose Blas field is at a place, from index end on.
-pub fn put_from(blases: &[u8], s: &[u8], at: usize, instances: &mut [u8], end: usize)
-    requires { ⌜ (at + (size 8 - 1) ≤ length (now s)) × (end + 64 ≤ length (now instances)) ⌝ }
-    requires { ⌜ instanceFrom (now s) at .blas .0 < length (now blases) / size 2 ⌝ }
-    requires { ⌜ instanceFrom (now s) at .«custom_data» < 2 ^ 24 ⌝ }
-    ensures { λ _. ⌜
-        now (instances .exit)
-        ≡ sets (now (instances .entry)) end
-        (instanceBytes (instanceFrom (now (s .entry)) at) (addressFor (now (blases .entry)) (instanceFrom (now (s .entry)) at)))
-        ⌝ }
-{
-    let instance = instance_from(s, at);
-    let address = address_of(blases, instance.blas);
-    put_instance(instances, end, instance, address);
-}
-
 // Writes what the slot at a place writes, from index end on, and returns the index past it.
 fn put_slot(blases: &[u8], slots: &[u8], at: usize, instances: &mut [u8], end: usize) -> usize
     requires { ⌜
@@ -215,7 +198,9 @@ fn put_slot(blases: &[u8], slots: &[u8], at: usize, instances: &mut [u8], end: u
     if u8_at(slots, at) == 0 {
         return end;
     }
-    put_from(blases, slots, at + 1, instances, end);
+    let instance = instance_from(slots, at + 1);
+    let address = address_of(blases, instance.blas);
+    put_instance(instances, end, instance, address);
     end + INSTANCE_SIZE
 }
 

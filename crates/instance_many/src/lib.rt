@@ -1,7 +1,9 @@
 // Many instances of one Tlas, appended by one call: judged whole, then written in one pass.
+use instance::address_of;
 use instance::check_named;
 use instance::instance_verdict;
-use instance::put_from;
+use instance_bytes::instance_from;
+use instance_bytes::put_instance;
 use ray_tracing::AppendedMany;
 use ray_tracing::BlasId;
 use ray_tracing::BuildAccelerationStructureError as Error;
@@ -18,19 +20,19 @@ use records::tlas_mention;
 use wire::u16_at;
 use wire::u32_at;
 ghost use mathlib.Core.Path.{_≡_};
-ghost use Prim.Native.Nat.{ℕ, _+_, _*_, _/_, _%_, _^_, _≤_, _<_};
+ghost use Prim.Native.Nat.{ℕ, _+_, _*_, _/_, _%_, _≤_, _<_};
 ghost use lib.ListN.{length};
 ghost use lib.Seq.{sets};
 ghost use lib.Dec.{ltb};
 ghost use Rattle.ray_tracing.specs.Guard.{neb};
-ghost use Rattle.ray_tracing.specs.Layout.{size};
 ghost use Rattle.ray_tracing.specs.Causes.{bare};
 ghost use Rattle.ray_tracing.specs.Mentions.{tlasMention, tlasOf};
 ghost use Rattle.ray_tracing.specs.Code.{verdictOf};
 ghost use Rattle.ray_tracing.specs.Plan.{refused, on, _or_, atE, firstOf};
-ghost use Rattle.ray_tracing.specs.Instances.{namedInstanceRule};
+ghost use Rattle.ray_tracing.specs.Instances.{instanceBytes, addressFor, namedInstanceRule};
 ghost use Rattle.ray_tracing.specs.AppendMany.{lentSize, lentCount, lentInstance, manyBytes, judgeInstance, judgeMany};
 ghost use Rattle.ray_tracing.specs.AppendMany.{appendedManyOf, AppendsMany};
+ghost use Rattle.instance_many.specs.MayWrite.{MayWrite};
 
 // Where a lent instance's custom data stands.
 const CUSTOM_DATA: usize = 2;
@@ -125,11 +127,27 @@ fn judge_many(
     first(named, first(part, short))
 }
 
+// Writes the k-th from index end on: what a slot of a build writes, in a copy of its own, since called by both it is not inlined.
+fn put_lent(blases: &[u8], items: &[u8], k: usize, instances: &mut [u8], end: usize)
+    requires { ⌜ (k * lentSize + lentSize ≤ length (now items)) × (end + 64 ≤ length (now instances)) ⌝ }
+    requires { ⌜ MayWrite (now blases) (lentInstance (now items) k) ⌝ }
+    ensures { λ _. ⌜
+        now (instances .exit)
+        ≡ sets (now (instances .entry)) end
+        (instanceBytes
+        (lentInstance (now (items .entry)) k)
+        (addressFor (now (blases .entry)) (lentInstance (now (items .entry)) k)))
+        ⌝ }
+{
+    let instance = instance_from(items, k * LENT_SIZE);
+    let address = address_of(blases, instance.blas);
+    put_instance(instances, end, instance, address);
+}
+
 // Writes the first count of them from index at on.
 fn put_many(blases: &[u8], items: &[u8], count: usize, instances: &mut [u8], at: usize)
     requires { ⌜ (count * lentSize ≤ length (now items)) × (at + 64 * count ≤ length (now instances)) ⌝ }
-    requires { ⌜ ((k : ℕ) → k < count → lentInstance (now items) k .blas .0 < length (now blases) / size 2) ⌝ }
-    requires { ⌜ ((k : ℕ) → k < count → lentInstance (now items) k .«custom_data» < 2 ^ 24) ⌝ }
+    requires { ⌜ ((k : ℕ) → k < count → MayWrite (now blases) (lentInstance (now items) k)) ⌝ }
     ensures { λ _. ⌜
         now (instances .exit)
         ≡ sets (now (instances .entry)) at (manyBytes (now (blases .entry)) (now (items .entry)) count)
@@ -137,13 +155,7 @@ fn put_many(blases: &[u8], items: &[u8], count: usize, instances: &mut [u8], at:
 {
     let mut i: usize = 0;
     while i < count {
-        put_from(
-            blases,
-            items,
-            i * LENT_SIZE,
-            instances,
-            at + i * INSTANCE_SIZE,
-        );
+        put_lent(blases, items, i, instances, at + i * INSTANCE_SIZE);
         i += 1;
     }
 }

@@ -53,10 +53,8 @@ put-many-requires c κs =
     let t = tlasOf (a .tlases .now) (a .tlas .0) in
     let bl = a .blases .now in
     let items = a .items .now in
-    let may = fine (c .before) in (
-      (omega arith, omega (arith, may .fits)),
-      ((λ k h. inside-narrow t bl (lentInstance items k) (may .each k h) .0), (λ k h. inside-narrow t bl (lentInstance items k) (may .each k h) .1)),
-    )
+    let may = fine (c .before) in
+    ((omega arith, omega (arith, may .fits)), λ k h. inside-narrow t bl (lentInstance items k) (may .each k h))
 
 returns : tie.Need-returns
 returns c =

@@ -24,11 +24,10 @@ loop-holds : tie.Need-loop-holds Inv-loop μ-loop
 unfolding manyBytes
 loop-holds c = (omega arith, refl, refl)
 
-put-from-requires : tie.Need-put-from-requires Inv-loop μ-loop
-put-from-requires c κs =
+put-lent-requires : tie.Need-put-lent-requires Inv-loop μ-loop
+put-lent-requires c κs =
     let start = c .before .before .before .before .before .before in
-    let k = c .before .before .loop .i in
-    ((omega arith, omega arith), (start .pre .1 .0 k (c .before .loop-test .taken), start .pre .1 .1 k (c .before .loop-test .taken)))
+    ((omega arith, omega arith), start .pre .1 (c .before .before .loop .i) (c .before .loop-test .taken))
 
 loop-again : tie.Need-loop-again Inv-loop μ-loop
 unfolding manyBytes
@@ -43,8 +42,8 @@ loop-again c =
     let new = instanceBytes i (addressFor bl i) in
     let place : a .at + k * 64 ≡ a .at + length (manyBytes bl s k) = omega (arith, many-length bl s k) in (
       omega arith,
-      put .put-from .kept .1 .1 .1 .0 ∙ at-loop .loop .inv .1,
-      put .put-from .ensures
+      put .put-lent .kept .1 .1 .1 .0 ∙ at-loop .loop .inv .1,
+      put .put-lent .ensures
           ∙ (λ j. sets (at-loop .loop .inv .2 j) (place j) new)
           ∙ sets-append (manyBytes bl s k) new (a .instances .now) (a .at)
           ∙ ap (λ (n : ℕ). sets (a .instances .now) (a .at) (manyBytes bl s n)) (sym (add-one k)),
@@ -66,8 +65,7 @@ put-many-spec =
     loop-holds
     (λ c. search needs)
     (λ c. search needs)
-    (λ c. search needs)
-    put-from-requires
+    put-lent-requires
     (λ c. search needs)
     (λ c. search needs)
     loop-again
