@@ -286,92 +286,72 @@ fn smaller_build(case: &Case, take: &mut dyn FnMut(Case) -> bool) -> bool {
     false
 }
 
-fn smaller_append(case: &Case, take: &mut dyn FnMut(Case) -> bool) -> bool {
-    let Case::Append { tlases, blases, tlas, instance, room, used } = case else { return false };
-    macro_rules! with {
-        ($field:ident: $value:expr) => {{
-            let mut c = case.clone();
-            if let Case::Append { $field, .. } = &mut c {
-                *$field = $value;
+/// Each byte that is not 0 made so.
+fn zeroed(bytes: &[u8]) -> impl Iterator<Item = Vec<u8>> + '_ {
+    (0..bytes.len()).filter(|&i| bytes[i] != 0).map(|i| {
+        let mut less = bytes.to_vec();
+        less[i] = 0;
+        less
+    })
+}
+
+/// The case with other values of some fields.
+macro_rules! with {
+    ($take:ident, $case:ident, $variant:ident, $($field:ident: $value:expr),*) => {{
+        let mut c = $case.clone();
+        if let Case::$variant { $($field,)* .. } = &mut c {
+            $(*$field = $value;)*
+        }
+        offer!($take, c);
+    }};
+}
+
+/// What one appended instance and many are lent beside themselves, smaller.
+macro_rules! smaller_lent {
+    ($take:ident, $case:ident, $variant:ident) => {
+        if let Case::$variant { tlases, blases, tlas, room, used, .. } = $case {
+            for less in without_units(tlases, SIZES[TLASES]).into_iter().chain(zeroed(tlases)) {
+                with!($take, $case, $variant, tlases: less);
             }
-            offer!(take, c);
-        }};
-    }
-    for less in without_units(tlases, SIZES[TLASES]) {
-        with!(tlases: less);
-    }
-    for less in without_units(blases, SIZES[BLASES]) {
-        with!(blases: less);
-    }
-    for v in lower(*used) {
-        with!(used: v);
-    }
-    for v in lower(*room as u64) {
-        with!(room: v as usize);
-    }
-    for v in lower((*tlas).into()) {
-        with!(tlas: v as u16);
-    }
-    for i in (0..55).filter(|&i| instance[i] != 0) {
-        let mut less = *instance;
-        less[i] = 0;
-        with!(instance: less);
-    }
-    for i in (0..blases.len()).filter(|&i| blases[i] != 0) {
-        let mut less = blases.clone();
-        less[i] = 0;
-        with!(blases: less);
+            for less in without_units(blases, SIZES[BLASES]).into_iter().chain(zeroed(blases)) {
+                with!($take, $case, $variant, blases: less);
+            }
+            for v in lower(*used) {
+                with!($take, $case, $variant, used: v);
+            }
+            for v in lower(*room as u64) {
+                with!($take, $case, $variant, room: v as usize);
+            }
+            for v in lower((*tlas).into()) {
+                with!($take, $case, $variant, tlas: v as u16);
+            }
+        }
+    };
+}
+
+fn smaller_append(case: &Case, take: &mut dyn FnMut(Case) -> bool) -> bool {
+    let Case::Append { instance, .. } = case else { return false };
+    smaller_lent!(take, case, Append);
+    for less in zeroed(instance) {
+        with!(take, case, Append, instance: less.try_into().unwrap());
     }
     false
 }
 
-/// Fewer items, with as much less room too; then as of one that is appended.
+/// Fewer items, with as much less room too; then as of one.
 fn smaller_many(case: &Case, take: &mut dyn FnMut(Case) -> bool) -> bool {
-    let Case::Many { tlases, blases, tlas, items, room, used } = case else { return false };
-    macro_rules! with {
-        ($($field:ident: $value:expr),*) => {{
-            let mut c = case.clone();
-            if let Case::Many { $($field,)* .. } = &mut c { $(*$field = $value;)* }
-            offer!(take, c);
-        }};
-    }
+    let Case::Many { items, room, .. } = case else { return false };
     for less in without_units(items, 55) {
         let fewer = 64 * (items.len() / 55 - less.len() / 55);
-        with!(items: less.clone(), room: room.saturating_sub(fewer));
-        with!(items: less);
+        with!(take, case, Many, items: less.clone(), room: room.saturating_sub(fewer));
+        with!(take, case, Many, items: less);
     }
     if items.len() % 55 != 0 {
-        with!(items: items[..items.len() - 1].to_vec());
+        with!(take, case, Many, items: items[..items.len() - 1].to_vec());
     }
-    for less in without_units(tlases, SIZES[TLASES]) {
-        with!(tlases: less);
-    }
-    for less in without_units(blases, SIZES[BLASES]) {
-        with!(blases: less);
-    }
-    for v in lower(*used) {
-        with!(used: v);
-    }
-    for v in lower(*room as u64) {
-        with!(room: v as usize);
-    }
-    for v in lower((*tlas).into()) {
-        with!(tlas: v as u16);
-    }
-    for i in (0..items.len()).filter(|&i| items[i] != 0) {
-        let mut less = items.clone();
-        less[i] = 0;
-        with!(items: less);
-    }
-    for i in (0..blases.len()).filter(|&i| blases[i] != 0) {
-        let mut less = blases.clone();
-        less[i] = 0;
-        with!(blases: less);
-    }
-    for i in (0..tlases.len()).filter(|&i| tlases[i] != 0) {
-        let mut less = tlases.clone();
-        less[i] = 0;
-        with!(tlases: less);
+    smaller_lent!(take, case, Many);
+    for less in zeroed(items) {
+        with!(take, case, Many, items: less);
     }
     false
 }

@@ -9,6 +9,7 @@ use native.Mathlib.Omega.{arith}
 use lib.Dec.{eqb, ltb}
 use lib.ListN.{getD}
 use borrow.Author.Tests.{ne-eqb, leb-false, ltb-true, ltb-false}
+use Rattle.ray_tracing.specs.Records.{fieldAt}
 use Rattle.instance.specs.Writable.{Writable}
 use Rattle.ray_tracing.specs.Guard.{refuse}
 use Rattle.ray_tracing.specs.Instances.{presentOf, slotsBytes}
@@ -133,7 +134,7 @@ module _ (x : Tables) where
 
 module _ (x : Tables) (e : judgePackages x ≡ passed) where
   module _ (i : Inside x) where
-    writable-at : (s : ℕ) → s < recordsIn x 8 → slotPresent (x .slots) s ≡ true → Writable (x .blases) (x .slots) (s * 56)
+    writable-at : (s : ℕ) → s < recordsIn x 8 → slotPresent (x .slots) s ≡ true → Writable (x .blases) (fieldAt 8 (x .slots) (s * 56) 1) (fieldAt 8 (x .slots) (s * 56) 2)
     writable-at s h z =
         let f = find x s (recordsIn x 7) (omega arith) (rw (i .slots-all) h) in
         let p = f .package-of in

@@ -36,4 +36,7 @@ compactableIn blases entries = compactableFrom (ofEntries blases entries) 0 (ent
 -- each present slot can be written
 abbrev pub AllWritable : List ℕ → List ℕ → Type 0
 AllWritable blases slots =
-    (s : ℕ) → s < slotsIn slots → (fieldAt 8 slots (s * size 8) 0 ≡ 0 → ⊥) → Writable blases slots (s * size 8)
+    (s : ℕ)
+    → s < slotsIn slots
+    → (fieldAt 8 slots (s * size 8) 0 ≡ 0 → ⊥)
+    → Writable blases (fieldAt 8 slots (s * size 8) 1) (fieldAt 8 slots (s * size 8) 2)

@@ -15,6 +15,7 @@ use instance_many::append_instances;
 use ray_tracing::AppendAnswer;
 use ray_tracing::BuildAnswer;
 use ray_tracing::CommandIndices;
+use ray_tracing::LENT_SIZE;
 use ray_tracing::OpenAnswer;
 use ray_tracing::ReportAnswer;
 use ray_tracing::SheetAnswer;
@@ -143,7 +144,7 @@ pub extern "C" fn zakvind_append_instance(
     tlases: &[u8],
     blases: &[u8],
     tlas: u16,
-    instance: &[u8; 55],
+    instance: &[u8; LENT_SIZE],
     instances: &mut [u8],
     used: u64,
 ) -> AppendAnswer

@@ -21,11 +21,11 @@ use Rattle.ray_tracing.specs.Causes.{Cause, bare, buildCause}
 use Rattle.ray_tracing.specs.Mentions.{_else_, blasMention, tlasMention, blasOf, tlasOf}
 use Rattle.ray_tracing.specs.Instances.{instanceBytes, returnsVertices, instanceRule, namedInstanceRule, addressFor, slotMention, slotRule, Appending, inUse, refused, namedTlasRule, roomRule, outcome, appendRule, bytesAfter, appendBytes}
 use Rattle.ray_tracing.specs.Plan as plan
-use Rattle.ray_tracing.specs.Plan.{passed, atE}
-use Rattle.ray_tracing.specs.Code.{instanceCause}
+use Rattle.ray_tracing.specs.Plan.{atE}
+use Rattle.ray_tracing.specs.Code.{instanceCause, instanceVerdict}
 use Rattle.ray_tracing.proofs.Causes.{positive}
-use Rattle.ray_tracing.proofs.Mentions.{mention-inside, else-zero}
-use Rattle.instance.specs.Writable.{Writable}
+use Rattle.ray_tracing.proofs.Mentions.{else-zero}
+use Rattle.ray_tracing.proofs.Instances.{inside-narrow}
 
 -- ---- 34, 35
 
@@ -47,13 +47,6 @@ module _ (tlas : Tlas) (blas : Blas) (custom : ℕ) where
     unfolding refuse
     rule-missing p q = rw (lt-leb (2 ^ 24) custom narrow, p, q)
 
-  pub rule-narrow : instanceRule tlas blas custom ≡ 0 → custom < 2 ^ 24
-  rule-narrow e = go (leb (2 ^ 24) custom) refl
-    where
-      go : (b : Bool) → leb (2 ^ 24) custom ≡ b → custom < 2 ^ 24
-      go false p = leb-false (2 ^ 24) custom p
-      go true p = let z : 34 ≡ instanceRule tlas blas custom = rule-custom (leb-true (2 ^ 24) custom p) in absurd (omega arith)
-
 -- ---- a slot
 
 module _ (blases s : List ℕ) (at : ℕ) where
@@ -71,36 +64,16 @@ module _ (blases s : List ℕ) (at : ℕ) where
     pub slot-present : (tlas : Tlas) → instanceRule tlas (blasOf blases (fieldAt 8 s at 1)) (fieldAt 8 s at 2) ≡ slotRule tlas blases s at
     slot-present tlas = rw (ne-eqb (fieldAt 8 s at 0) 0 present)
 
-    -- what was judged may be written
-    pub writable : (tlas : Tlas) → slotMention blases s at ≡ 0 → slotRule tlas blases s at ≡ 0 → Writable blases s at
-    writable tlas m r = record {
-      inside = mention-inside 28 blases (fieldAt 8 s at 1) (mention-present ∙ m);
-      narrow = rule-narrow tlas (blasOf blases (fieldAt 8 s at 1)) (fieldAt 8 s at 2) (slot-present tlas ∙ r);
-    }
+-- ---- an instance at E
 
--- ---- an instance
-
--- what was judged of one may be written
-pub inside-narrow :
-    (tlas : Tlas) (blases : List ℕ) (i : TlasInstance)
-    → namedInstanceRule tlas blases i ≡ 0
-    → (i .blas .0 < length blases / 28) × (i .«custom_data» < 2 ^ 24)
-inside-narrow tlas blases i e =
-    let b = blasOf blases (i .blas .0) in
-    let both = else-zero (blasMention blases (i .blas .0)) (instanceRule tlas b (i .«custom_data»)) e in
-    (mention-inside 28 blases (i .blas .0) (both .0), rule-narrow tlas b (i .«custom_data») (both .1))
-
--- at E
-pub instance-none : (e f n : ℕ) → bare 0 ≡ bare n → passed ≡ atE e f n
-instance-none e f n h =
+pub verdict-at : (c : CheckedInstance) (e f n : ℕ) → instanceCause c ≡ bare n → instanceVerdict e f c ≡ atE e f n
+verdict-at Fine e f n h =
     let z : 0 ≡ n = ap (λ (c : Cause). c .number) h in
     ap (atE e f) z
-
-pub instance-some : (c : BuildAccelerationStructureError) (e f n : ℕ) → buildCause c ≡ bare n → plan.refused e f (buildCause c) ≡ atE e f n
-instance-some c e f zero h =
+verdict-at (Refused c) e f zero h =
     let z : buildCause c .number ≡ 0 = ap (λ (c : Cause). c .number) h in
     absurd (omega (arith, positive c))
-instance-some c e f (suc n) h = ap (plan.refused e f) h
+verdict-at (Refused c) e f (suc n) h = ap (plan.refused e f) h
 
 -- ---- appending one instance
 

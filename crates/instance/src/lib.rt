@@ -32,8 +32,7 @@ ghost use Rattle.ray_tracing.specs.Layout.{size};
 ghost use Rattle.ray_tracing.specs.Records.{fieldAt};
 ghost use Rattle.ray_tracing.specs.Causes.{bare};
 ghost use Rattle.ray_tracing.specs.Mentions.{_else_, blasMention, blasOf};
-ghost use Rattle.ray_tracing.specs.Plan.{atE};
-ghost use Rattle.ray_tracing.specs.Code.{mentionOf, instanceCause, verdictOf};
+ghost use Rattle.ray_tracing.specs.Code.{mentionOf, instanceCause, instanceVerdict, verdictOf};
 ghost use Rattle.ray_tracing.specs.Instances.{returnsVertices, instanceRule, namedTlasRule, appendedOf, Appends};
 ghost use Rattle.ray_tracing.specs.Instances.{presentAt, presentOf, slotMention, slotRule, slotBytes, slotsBytes};
 ghost use Rattle.instance.specs.Writable.{Writable};
@@ -149,7 +148,7 @@ pub fn append_instance(
 
 // What judging an instance finds, at E.
 pub fn instance_verdict(c: CheckedInstance, e: usize, f: usize) -> Verdict
-    ensures { λ r. ⌜ ((n : ℕ) → instanceCause c ≡ bare n → verdictOf r ≡ atE e f n) ⌝ }
+    ensures { λ r. ⌜ verdictOf r ≡ instanceVerdict e f c ⌝ }
 {
     match c {
         CheckedInstance::Fine => Verdict::Passed,
@@ -188,7 +187,10 @@ fn put_slot(blases: &[u8], slots: &[u8], at: usize, instances: &mut [u8], end: u
     requires { ⌜
         (at + size 8 ≤ length (now slots)) × (end + length (slotBytes (now blases) (now slots) at) ≤ length (now instances))
         ⌝ }
-    requires { ⌜ ((fieldAt 8 (now slots) at 0 ≡ 0 → ⊥) → Writable (now blases) (now slots) at) ⌝ }
+    requires { ⌜
+        ((fieldAt 8 (now slots) at 0 ≡ 0 → ⊥)
+        → Writable (now blases) (fieldAt 8 (now slots) at 1) (fieldAt 8 (now slots) at 2))
+        ⌝ }
     ensures { λ r. ⌜ r ≡ end + length (slotBytes (now (blases .entry)) (now (slots .entry)) at) ⌝ }
     ensures { λ _. ⌜
         now (instances .exit)
@@ -221,7 +223,9 @@ pub fn put_slots(
         ((i : ℕ)
         → i < count
         → (fieldAt 8 (now slots) ((first + i) * size 8) 0 ≡ 0 → ⊥)
-        → Writable (now blases) (now slots) ((first + i) * size 8))
+        → Writable (now blases)
+        (fieldAt 8 (now slots) ((first + i) * size 8) 1)
+        (fieldAt 8 (now slots) ((first + i) * size 8) 2))
         ⌝ }
     ensures { λ r. ⌜ r ≡ at + 64 * presentOf (now (slots .entry)) first count ⌝ }
     ensures { λ _. ⌜

@@ -32,7 +32,7 @@ ghost use Rattle.ray_tracing.specs.Plan.{refused, on, _or_, atE, firstOf};
 ghost use Rattle.ray_tracing.specs.Instances.{instanceBytes, addressFor, namedInstanceRule};
 ghost use Rattle.ray_tracing.specs.AppendMany.{lentSize, lentCount, lentInstance, manyBytes, judgeInstance, judgeMany};
 ghost use Rattle.ray_tracing.specs.AppendMany.{appendedManyOf, AppendsMany};
-ghost use Rattle.instance_many.specs.MayWrite.{MayWrite};
+ghost use Rattle.instance.specs.Writable.{Writable};
 
 // Where a lent instance's custom data stands.
 const CUSTOM_DATA: usize = 2;
@@ -130,7 +130,7 @@ fn judge_many(
 // Writes the k-th from index end on: what a slot of a build writes, in a copy of its own, since called by both it is not inlined.
 fn put_lent(blases: &[u8], items: &[u8], k: usize, instances: &mut [u8], end: usize)
     requires { ⌜ (k * lentSize + lentSize ≤ length (now items)) × (end + 64 ≤ length (now instances)) ⌝ }
-    requires { ⌜ MayWrite (now blases) (lentInstance (now items) k) ⌝ }
+    requires { ⌜ Writable (now blases) (lentInstance (now items) k .blas .0) (lentInstance (now items) k .«custom_data») ⌝ }
     ensures { λ _. ⌜
         now (instances .exit)
         ≡ sets (now (instances .entry)) end
@@ -147,7 +147,11 @@ fn put_lent(blases: &[u8], items: &[u8], k: usize, instances: &mut [u8], end: us
 // Writes the first count of them from index at on.
 fn put_many(blases: &[u8], items: &[u8], count: usize, instances: &mut [u8], at: usize)
     requires { ⌜ (count * lentSize ≤ length (now items)) × (at + 64 * count ≤ length (now instances)) ⌝ }
-    requires { ⌜ ((k : ℕ) → k < count → MayWrite (now blases) (lentInstance (now items) k)) ⌝ }
+    requires { ⌜
+        ((k : ℕ)
+        → k < count
+        → Writable (now blases) (lentInstance (now items) k .blas .0) (lentInstance (now items) k .«custom_data»))
+        ⌝ }
     ensures { λ _. ⌜
         now (instances .exit)
         ≡ sets (now (instances .entry)) at (manyBytes (now (blases .entry)) (now (items .entry)) count)

@@ -142,7 +142,7 @@ module _ (tlases blases : List ℕ) (tlas : TlasId) (items : List ℕ) where
         all-passed (judgeInstance tlases blases tlas items) (lentCount items) 0 (λ k h. rw zero-add (ap (atE _ _) (x .each k h))) in
         rw (x .mentioned, each, x .whole, le-ltb room (used + 64 * lentCount items) (x .fits))
 
-    pub fine-alone : Fine room used → (k : ℕ) → k < lentCount items → alone k ≡ 0
+    fine-alone : Fine room used → (k : ℕ) → k < lentCount items → alone k ≡ 0
     unfolding namedTlasRule
     fine-alone x k h = sym (else-rest _ _ (x .mentioned)) ∙ x .each k h
 

@@ -11,13 +11,19 @@ use lib.Arith.{digits-div, digits-mod}
 use lib.ListN.{length, take, drop, getD, length-append, length-map, List·getD-map}
 use lib.Seq.{take-at, take-add, drop-drop}
 use lib.Ieee.{Float, nan, binary32, ofBits}
-use borrow.Author.Tests.{eq-eqb, ne-eqb}
+use borrow.Author.Tests.{eq-eqb, ne-eqb, leb-false}
 use Rattle.wire.specs.Wire.{leAt, leBytes}
 use Rattle.wire.proofs.Laws.{length-leBytes, leBytes-split, leBytes-low, leBytes-at, le-below}
 use Rattle.wire.proofs.Laws as wire
+use Rattle.ray_tracing.specs.declared.Blas.{Blas}
+use Rattle.ray_tracing.specs.declared.Tlas.{Tlas}
 use Rattle.ray_tracing.specs.declared.TlasInstance.{TlasInstance}
+use Rattle.ray_tracing.specs.Guard.{refuse}
+use Rattle.ray_tracing.specs.Layout.{size}
 use Rattle.ray_tracing.specs.Records.{fieldAt}
-use Rattle.ray_tracing.specs.Instances.{nanOf, bitsOf, patterns, words, instanceBytes, VkAccelerationStructureInstanceKHR, vkInstance, vkBytes, wordsAt, instanceFrom, instanceAt, presentAt, addressFor, slotBytes, slotsBytes, presentOf}
+use Rattle.ray_tracing.specs.Mentions.{blasMention, blasOf}
+use Rattle.ray_tracing.specs.Instances.{nanOf, bitsOf, patterns, words, instanceBytes, VkAccelerationStructureInstanceKHR, vkInstance, vkBytes, wordsAt, instanceFrom, instanceAt, presentAt, addressFor, slotBytes, slotsBytes, presentOf, instanceRule, namedInstanceRule}
+use Rattle.ray_tracing.proofs.Mentions.{mention-inside, else-zero}
 use Rattle.ray_tracing.proofs.Numbers.{bits-back}
 
 -- ---- u32s end to end
@@ -300,3 +306,22 @@ module _ (blases s : List ℕ) (a : ℕ) where
   present-more n =
       omega
       (arith, slots-length (n + 1), slots-length n, ap length (slots-more n), length-append (slotsBytes blases s a n) (slotBytes blases s ((a + n) * 56)))
+
+-- ---- what was judged may be written
+
+first-none : (t u : Bool) → _≡_ {A = ℕ} (refuse t 34 (refuse u 35 0)) 0 → t ≡ false
+unfolding refuse
+first-none false u e = refl
+first-none true u e = let z : _≡_ {A = ℕ} 34 0 = e in absurd (omega arith)
+
+module _ (tlas : Tlas) where
+  pub rule-narrow : (blas : Blas) (custom : ℕ) → instanceRule tlas blas custom ≡ 0 → custom < 2 ^ 24
+  rule-narrow blas custom e = leb-false (2 ^ 24) custom (first-none _ _ e)
+
+  pub inside-narrow :
+      (blases : List ℕ) (i : TlasInstance)
+      → namedInstanceRule tlas blases i ≡ 0
+      → (i .blas .0 < length blases / size 2) × (i .«custom_data» < 2 ^ 24)
+  inside-narrow blases i e =
+      let both = else-zero (blasMention blases (i .blas .0)) _ e in
+      (mention-inside (size 2) blases (i .blas .0) (both .0), rule-narrow (blasOf blases (i .blas .0)) (i .«custom_data») (both .1))

@@ -6,36 +6,27 @@ use native.Mathlib.Omega.{arith}
 use mathlib.Core.Path.{_≡_, refl, sym, ap, _∙_}
 use mathlib.Core.Bool.{Bool, true, false, not, _||_, _&&_, cond}
 use mathlib.Core.List.{List, [], _∷_, _++_, append-assoc}
-use lib.Dec.{leb}
 use lib.ListN.{length, take, drop, getD, length-append, length-take, length-drop, List·getD-append}
 use lib.Seq.{sets, sets-eq, take-append-le, drop-append-le, drop-drop, take-at, drop-at, length-take-le}
-use borrow.Author.Tests.{leb-false}
 use Rattle.wire.specs.Wire.{leAt, leBytes}
 use Rattle.ray_tracing.specs.declared.Written.{Written}
-use Rattle.ray_tracing.specs.declared.Tlas.{Tlas}
 use Rattle.ray_tracing.specs.declared.TlasId.{TlasId}
 use Rattle.ray_tracing.specs.declared.TlasInstance.{TlasInstance}
-use Rattle.ray_tracing.specs.Guard.{refuse}
 use Rattle.ray_tracing.specs.Layout.{size}
 use Rattle.ray_tracing.specs.Records.{fieldAt}
-use Rattle.ray_tracing.specs.Mentions.{blasMention, tlasMention, tlasOf}
-use Rattle.ray_tracing.specs.Instances.{VkAccelerationStructureInstanceKHR, field, columns, vkBytes, vkInstance, vkSlot, patterns, wordsAt, instanceFrom, instanceAt, addressFor, instanceBytes, presentOf, Appending, inUse, namedInstanceRule, namedTlasRule, bytesAfter, appendBytes, Appends}
-use Rattle.ray_tracing.specs.Plan.{Tables, passed, recordsIn, slotCount, slotPresent, judgeSlot, judgePackage, judgePackages, Outputs, planOf, short, Building, recorded, build, written, leaves, Builds}
+use Rattle.ray_tracing.specs.Mentions.{tlasMention, blasOf, tlasOf}
+use Rattle.ray_tracing.specs.Instances.{VkAccelerationStructureInstanceKHR, field, columns, vkBytes, vkInstance, vkSlot, patterns, wordsAt, instanceFrom, instanceAt, addressFor, instanceBytes, presentOf, Appending, inUse, namedTlasRule, bytesAfter, appendBytes, Appends}
+use Rattle.ray_tracing.specs.Plan.{Tables, passed, recordsIn, slotCount, slotPresent, slotBlas, tlasOfPackage, judgeSlot, judgePackage, judgePackages, Outputs, planOf, short, Building, recorded, build, written, leaves, Builds}
 use Rattle.ray_tracing.specs.AppendMany.{lentSize, lentCount, lentInstance, manyBytes, allInUse, AppendsMany}
 use Rattle.ray_tracing.proofs.Mentions.{else-zero}
 use Rattle.ray_tracing.proofs.AppendMany.{accepted-alone, accepted-wrote, many-length, many-at}
 use Rattle.ray_tracing.proofs.Verdicts.{or-passed, none-atE, none-cond, each-passed, each-drawing}
 use Rattle.ray_tracing.proofs.Inside.{Inside, slotsBefore, slots-none, slots-more}
-use Rattle.ray_tracing.proofs.Instances.{Below, vk-bytes, bytes-length, from-lengths, from-length, patterns-read, getD-wordsAt, slot-custom}
+use Rattle.ray_tracing.proofs.Instances.{Below, vk-bytes, bytes-length, from-lengths, from-length, patterns-read, getD-wordsAt, slot-custom, rule-narrow, inside-narrow}
 use Rattle.ray_tracing.proofs.Staged.{slot-placed, staging-length}
 use Rattle.ray_tracing.proofs.PlanLaws.{judged, facts, room}
 
 -- ---- 34 was judged of each present slot
-
-first-none : (t u : Bool) → _≡_ {A = ℕ} (refuse t 34 (refuse u 35 0)) 0 → t ≡ false
-unfolding refuse
-first-none false u e = refl
-first-none true u e = let z : _≡_ {A = ℕ} 34 0 = e in absurd (omega arith)
 
 module _ (x : Tables) (e : judgePackages x ≡ passed) where
   package-passed : (p : ℕ) → p < recordsIn x 7 → judgePackage x p (slotsBefore x p) ≡ passed
@@ -54,7 +45,9 @@ module _ (x : Tables) (e : judgePackages x ≡ passed) where
       → j < slotCount x p
       → slotPresent (x .slots) (slotsBefore x p + j) ≡ true
       → fieldAt 8 (x .slots) ((slotsBefore x p + j) * size 8) 2 < 2 ^ 24
-  slot-narrow p j h k s = leb-false _ _ (first-none _ _ (none-cond _ _ (none-atE p j _ (slot-passed p j h k)) s))
+  slot-narrow p j h k s =
+      rule-narrow (tlasOfPackage x p) (blasOf (x .blases) (slotBlas (x .slots) (slotsBefore x p + j))) _
+      (none-cond _ _ (none-atE p j _ (slot-passed p j h k)) s)
 
 -- ---- an instance that was read, as its slot says it
 
@@ -142,9 +135,6 @@ module _ (x : Tables) (o : Outputs) (n : ℕ) (w : Written) (left : Outputs) (bu
 
 -- ---- an appended instance
 
-rule-narrow : (t : Tlas) (blases : List ℕ) (i : TlasInstance) → namedInstanceRule t blases i ≡ 0 → i .«custom_data» < 2 ^ 24
-rule-narrow t blases i e = leb-false (2 ^ 24) (i .«custom_data») (first-none _ _ (else-zero (blasMention blases (i .blas .0)) _ e .1))
-
 module _ (tlases blases : List ℕ) (tlas : TlasId) (i : TlasInstance) (b : List ℕ) (used m : ℕ) (left : List ℕ)
     (appends : Appends tlases blases tlas i b used (inUse m) left) (h : length (i .transform) ≡ 12) (g : length (i .«nan_bits») ≡ 12) where
   not-refused : (namedTlasRule tlases blases tlas i ≡ 0) × (used + 64 ≤ length b)
@@ -152,7 +142,7 @@ module _ (tlases blases : List ℕ) (tlas : TlasId) (i : TlasInstance) (b : List
 
   narrow : i .«custom_data» < 2 ^ 24
   unfolding namedTlasRule
-  narrow = rule-narrow (tlasOf tlases (tlas .0)) blases i (else-zero (tlasMention tlases (tlas .0)) _ (not-refused .0) .1)
+  narrow = inside-narrow (tlasOf tlases (tlas .0)) blases i (else-zero (tlasMention tlases (tlas .0)) _ (not-refused .0) .1) .1
 
   left-as : left ≡ sets b used (instanceBytes i (addressFor blases i))
   unfolding appendBytes
@@ -193,4 +183,4 @@ module _ (tlases blases : List ℕ) (tlas : TlasId) (items b : List ℕ) (used m
       ∙ ap (take 64) (drop-append-le (64 * k) new rest (omega arith))
       ∙ take-append-le 64 (drop (64 * k) new) rest (omega (arith, length-drop (64 * k) new))
       ∙ many-at blases items n k h
-      ∙ vk-bytes i (addressFor blases i) (lengths .0) (lengths .1) (rule-narrow (tlasOf tlases (tlas .0)) blases i (done .0 .each k h))
+      ∙ vk-bytes i (addressFor blases i) (lengths .0) (lengths .1) (inside-narrow (tlasOf tlases (tlas .0)) blases i (done .0 .each k h) .1)

@@ -63,6 +63,11 @@ abbrev pub instanceCause : CheckedInstance → Cause
 instanceCause checked.Fine = bare 0
 instanceCause (checked.Refused e) = buildCause e
 
+-- that at E
+abbrev pub instanceVerdict : ℕ → ℕ → CheckedInstance → plan.Verdict
+instanceVerdict e f checked.Fine = plan.passed
+instanceVerdict e f (checked.Refused c) = plan.refused e f (buildCause c)
+
 -- what judging a build finds
 abbrev pub verdictOf : code-verdict.Verdict → plan.Verdict
 verdictOf verdict.Passed = plan.passed

@@ -2,7 +2,7 @@
 use native.Mathlib.Omega.{arith}
 use mathlib.Core.List.{List}
 use mathlib.Core.Path.{_≡_, refl, sym, ap, _∙_}
-use Prim.Native.Nat.{ℕ, _+_, _*_}
+use Prim.Native.Nat.{ℕ, _+_, _*_, _<_}
 use lib.ListN.{length}
 use lib.Seq.{sets}
 use Rattle.ray_tracing.specs.declared.TlasId.{TlasId}
@@ -12,7 +12,8 @@ use Rattle.ray_tracing.specs.Code.{verdictOf}
 use Rattle.ray_tracing.specs.Plan.{Verdict, passed, refused}
 use Rattle.ray_tracing.specs.AppendMany.{lentCount, lentInstance, manyBytes, judgeMany, AppendingMany, allInUse, noneAppended, manyOutcome, appendManyRule, manyAfter, appendManyBytes, AppendsMany}
 use Rattle.ray_tracing.proofs.AppendMany.{Fine, judged-fine}
-use Rattle.instance.proofs.Laws.{inside-narrow}
+use Rattle.ray_tracing.proofs.Instances.{inside-narrow}
+use Rattle.instance.specs.Writable.{Writable}
 use borrow.Author.Needs.{needs}
 use Rattle.instance_many.proofs.append_instances.Statement.{statement}
 use Rattle.instance_many.proofs.append_instances.Tie as tie
@@ -54,7 +55,11 @@ put-many-requires c κs =
     let bl = a .blases .now in
     let items = a .items .now in
     let may = fine (c .before) in
-    ((omega arith, omega (arith, may .fits)), λ k h. inside-narrow t bl (lentInstance items k) (may .each k h))
+    let may-be : (k : ℕ) → k < lentCount items → Writable bl (lentInstance items k .blas .0) (lentInstance items k .«custom_data») =
+    λ k h.
+    let both = inside-narrow t bl (lentInstance items k) (may .each k h) in
+    record { inside = both .0; narrow = both .1 } in
+    ((omega arith, omega (arith, may .fits)), may-be)
 
 returns : tie.Need-returns
 returns c =

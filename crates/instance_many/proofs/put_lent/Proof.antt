@@ -1,24 +1,28 @@
 -- `instance_many::put_lent` meets its contract: the instance that was read is the one whose bytes are written.
 use native.Mathlib.Omega.{arith}
+use mathlib.Core.List.{List}
 use mathlib.Core.Path.{_≡_, sym, ap, _∙_, subst}
 use Prim.Native.Nat.{ℕ}
 use lib.Seq.{sets}
 use Rattle.ray_tracing.specs.declared.TlasInstance.{TlasInstance}
 use Rattle.ray_tracing.specs.Instances.{instanceBytes, addressFor}
-use Rattle.instance_many.specs.MayWrite.{MayWrite}
+use Rattle.instance.specs.Writable.{Writable}
 use borrow.Author.Needs.{needs}
 use Rattle.instance_many.proofs.put_lent.Statement.{statement}
 use Rattle.instance_many.proofs.put_lent.Tie as tie
 
+abbrev May : List ℕ → TlasInstance → Type 0
+May blases i = Writable blases (i .blas .0) (i .«custom_data»)
+
 address-of-requires : tie.Need-address-of-requires
 address-of-requires c κs =
     let start = c .before .before .before .before in
-    subst (MayWrite (start .args .blases .now)) (sym (c .instance-from .ensures)) (start .pre .1) .0
+    subst (May (start .args .blases .now)) (sym (c .instance-from .ensures)) (start .pre .1) .inside
 
 put-instance-requires : tie.Need-put-instance-requires
 put-instance-requires c κs =
     let start = c .before .before .before .before .before .before in
-    (omega arith, subst (MayWrite (start .args .blases .now)) (sym (c .before .before .instance-from .ensures)) (start .pre .1) .1)
+    (omega arith, subst (May (start .args .blases .now)) (sym (c .before .before .instance-from .ensures)) (start .pre .1) .narrow)
 
 returns : tie.Need-returns
 returns c =
