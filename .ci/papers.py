@@ -170,6 +170,33 @@ for source in sorted((root / "crates").glob("*/src/**/*.rt")):
             if not re.search(rf"ensures \{{ λ \w+\. ⌜\s+{CALLS[function]}\s", head) or head.count("ensures {") != 1:
                 faults.append(f"{name}: the contract of {function} is not its one definition, {CALLS[function]}")
 
+# ---- ways on which nothing is divided: no `/` and no `%` in a function's body, nor in that of any function that it calls
+
+UNDIVIDED = ["scratch::is_power_of_two", "scratch::align_by_mask"]
+
+
+def bodies(crate):
+    """The bodies of a crate's functions, and what it uses, without comments."""
+    text = re.sub(r"//.*", "", read(f"crates/{crate}/src/lib.rt"))
+    functions = {m.group(1): re.split(r"(?:^|(?<= ))\{$", m.group(0), maxsplit=1, flags=re.M)[-1]
+                 for m in re.finditer(r"^(?:pub )?fn (\w+)\(.*?^\}", text, re.M | re.S)}
+    return functions, dict(reversed(u.split("::")) for u in re.findall(r"^use (\w+::\w+);", text, re.M))
+
+
+todo = list(UNDIVIDED)
+for at in todo:
+    crate, function = at.split("::")
+    functions, brought = bodies(crate)
+    if function not in functions:
+        faults.append(f"{at}, on a way on which nothing is divided, is not there to be read")
+        continue
+    if re.search(r"[/%]", functions[function]):
+        faults.append(f"{at} divides, on a way on which nothing is divided")
+    for path, name in re.findall(r"(?:(\w+)::)?(\b[a-z]\w*)\(", functions[function]):
+        if name not in {"if", "while", "match", "return"}:
+            called = f"{path or brought.get(name, crate)}::{name}"
+            todo += [called] if called not in todo else []
+
 # ---- definitions: a name has one meaning over all specs
 
 defined = collections.defaultdict(set)

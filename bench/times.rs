@@ -387,6 +387,40 @@ fn groups_rows() -> (Vec<Groups>, f64) {
     (rows, refused)
 }
 
+/// Nanoseconds of a build whose scratch sizes are rounded to 256, by a mask, and to 255, by division; and how many are rounded, each for
+/// the total and for its offset.
+struct Rounding {
+    name: String,
+    what: String,
+    roundings: usize,
+    mask: f64,
+    division: f64,
+}
+
+fn rounding_row(name: &str, what: &str, shape: &Shape) -> Rounding {
+    let t = tables(shape).tables();
+    let lent: [&[u8]; 8] = std::array::from_fn(|s| &t[s][..]);
+    let out = std::cell::RefCell::new(Out::new());
+    let build = |alignment| zakvind::raw::build(black_box(alignment), black_box(lent), out.borrow_mut().lend());
+    for alignment in [256, 255] {
+        let a = build(alignment);
+        assert_eq!((a.number, a.recorded), (0, 1), "{name}");
+        assert_eq!(a.scratch_size % u64::from(alignment), 0, "{name}");
+    }
+    let [mask, division] = times(
+        [
+            &mut || {
+                black_box(build(256));
+            },
+            &mut || {
+                black_box(build(255));
+            },
+        ],
+        &mut || {},
+    );
+    Rounding { name: name.into(), what: what.into(), roundings: 2 * (shape.entries + shape.packages), mask, division }
+}
+
 fn build_row(name: &str, what: &str, shape: &Shape) -> Row {
     let raw = tables(shape);
     let t = raw.tables();
@@ -592,6 +626,11 @@ fn main() {
         written_anew("write-unused", "a full sheet of boxes and absent slots", &unused()),
     ];
     let (groups, refused) = groups_rows();
+    let roundings = [
+        rounding_row("round-full", "build of full tables: 64 entries, 32 packages", &FULL),
+        rounding_row("round-typical", "build of typical tables: 8 entries, 2 packages", &TYPICAL),
+        rounding_row("round-packages", "build of 32 packages without slots", &Shape { entries: 0, geometries: 0, slots: 0, ..FULL }),
+    ];
     let growth: Vec<Row> = [1, 4, 16, 64]
         .map(|n| build_row(&format!("entries-{n}"), &format!("{n} entries, {} geometries", 4 * n), &only_entries(n)))
         .into_iter()
@@ -617,6 +656,12 @@ fn main() {
     for r in &groups {
         let times = [r.ours, r.copy].map(micro).join(" | ");
         let _ = writeln!(opening, "| {} | {} | {times} | {:.2} | {:.2} |", r.what, r.bytes, r.ours / r.copy, r.ours / typed);
+    }
+    let mut rounding = String::new();
+    for r in &roundings {
+        let times = [r.mask, r.division].map(micro).join(" | ");
+        let each = (r.division - r.mask) / r.roundings as f64;
+        let _ = writeln!(rounding, "| {} | {} | {times} | {:.2} | {each:.1} ns |", r.what, r.roundings, r.division / r.mask);
     }
     let instances = rows.iter().find(|r| r.name == "instances-512").unwrap();
     let table = |rows: &[Row]| {
@@ -658,6 +703,10 @@ fn main() {
          | What | bytes | opening | copy | to a copy | to written out |\n|---|---|---|---|---|---|\n{opening}\n\
          64 groups, each of which but the first names the one before twice, name 2^63 slots in {most} bytes; they are refused by 46 at the \
          513th, in {refused}.\n\n\
+         Scratch sizes are rounded to the alignment by a mask where that is a power of two, and else by division, which is what there is \
+         instead. The same builds to 256 and to 255; the ratio is division / mask, and the last column what a division costs more, by the \
+         difference of the two.\n\n\
+         | What | roundings | to 256 | to 255 | ratio | more, each |\n|---|---|---|---|---|---|\n{rounding}\n\
          The program `zakvind` on a full sheet, from its start to its end: {program}.\n\n\
          ## How it grows\n\n\
          | Work | Rust | Rust, made | Zakvind | ratio | made |\n|---|---|---|---|---|---|\n{growth}\n\
@@ -723,6 +772,9 @@ fn main() {
     for r in &many {
         println!("copy {} {:.2}", r.name, r.ours / r.copy);
         println!("many {} {:.2}", r.name, r.each / r.ours);
+    }
+    for r in &roundings {
+        println!("round {} {:.2}", r.name, r.division / r.mask);
     }
     if let Some(file) = std::env::args().nth(1) {
         std::fs::write(&file, paper).unwrap_or_else(|e| panic!("{file}: {e}"));

@@ -1,6 +1,6 @@
 /* The header against the library: records packed and unpacked, the room of a build, empty tables, a sheet written anew, opened groups,
- * words, a refused append, many instances in one call, and how much stack each call uses, with the largest tables, sheet and groups. Every
- * answer is held against what it must be. */
+ * words, a refused append, many instances in one call, how much stack each call uses, with the largest tables, sheet and groups, and how often
+ * a build divides. Every answer is held against what it must be. OTHER_LIBRARY: one that stands in for ours may use more stack and divide. */
 #define _GNU_SOURCE
 #include <zakvind.h>
 
@@ -163,10 +163,11 @@ static uint16_t compactable[ZAKVIND_ROOM_COMPACTABLE(ZAKVIND_MOST_ENTRIES)];
 static uint16_t lists[ZAKVIND_ROOM_LISTS(ZAKVIND_MOST_ENTRIES, ZAKVIND_MOST_PACKAGES, ZAKVIND_MOST_SLOTS)];
 static zakvind_room room;
 static zakvind_built built;
+static uint32_t alignment = 256;
 
 static void build(void)
 {
-    built = zakvind_build(256, buffers, sizeof buffers, blases, sizeof blases, declared, sizeof declared, tlases, sizeof tlases,
+    built = zakvind_build(alignment, buffers, sizeof buffers, blases, sizeof blases, declared, sizeof declared, tlases, sizeof tlases,
                           entries, sizeof entries, geometries, sizeof geometries, packages, sizeof packages, slots, sizeof slots,
                           blas_offsets, room.blas_offsets, tlas_offsets, room.tlas_offsets, staging_ranges, room.staging_ranges,
                           instances, room.instances, init_ranges, room.init_ranges, compactable, room.compactable, lists, room.lists);
@@ -671,7 +672,7 @@ static void stacks(void)
     for (size_t i = 0; i < sizeof calls / sizeof *calls; i++) {
         const size_t used = stack_of(calls[i].call) - thread;
         printf(" %s %zu", calls[i].name, used);
-#ifndef ANY_STACK
+#ifndef OTHER_LIBRARY
         must(used <= calls[i].most, "the stack that is said");
 #endif
     }
@@ -679,6 +680,93 @@ static void stacks(void)
     nest(2);
     opens_many();
 }
+
+/* ---- divisions: a build is run instruction by instruction, and those that divide are counted */
+
+#if defined(__x86_64__) && defined(__linux__) && !defined(OTHER_LIBRARY)
+#include <signal.h>
+#include <ucontext.h>
+
+static volatile size_t steps, divided;
+
+/* Before each instruction: `div` and `idiv` are f6 or f7, 6 or 7 in the byte behind it, after any prefixes. */
+static void before_instruction(int number, siginfo_t *info, void *context)
+{
+    (void)number, (void)info;
+    const uint8_t *at = (const uint8_t *)((const ucontext_t *)context)->uc_mcontext.gregs[REG_RIP];
+    while (*at == 0x2e || *at == 0x3e || (*at >= 0x64 && *at <= 0x67) || *at == 0xf0 || *at == 0xf2 || *at == 0xf3)
+        at++;
+    if (*at >= 0x40 && *at <= 0x4f)
+        at++;
+    steps++;
+    divided += (*at == 0xf6 || *at == 0xf7) && (at[1] >> 3 & 7) >= 6;
+}
+
+/* The trap flag, below what the compiler may keep under the stack pointer. */
+#define TRAP(change) __asm__ volatile("lea -128(%%rsp), %%rsp; pushfq; " change ", (%%rsp); popfq; lea 128(%%rsp), %%rsp" ::: "memory", "cc")
+
+static size_t divisions_of(void (*call)(void))
+{
+    steps = divided = 0;
+    TRAP("orq $0x100");
+    call();
+    TRAP("andq $~0x100");
+    return divided;
+}
+
+/* Entries without geometries and packages without slots: little but their scratch. */
+enum { ROUNDED = 4 };
+static uint8_t bare_entries[ROUNDED * ZAKVIND_ENTRY_BYTES], bare_packages[ROUNDED * ZAKVIND_PACKAGE_BYTES];
+
+static void build_bare(void)
+{
+    built = zakvind_build(alignment, buffers, 0, blases, ROUNDED * ZAKVIND_BLAS_BYTES, declared, 0, tlases, ROUNDED * ZAKVIND_TLAS_BYTES,
+                          bare_entries, sizeof bare_entries, geometries, 0, bare_packages, sizeof bare_packages, slots, 0,
+                          blas_offsets, room.blas_offsets, tlas_offsets, room.tlas_offsets, staging_ranges, room.staging_ranges,
+                          instances, 0, init_ranges, 0, compactable, room.compactable, lists, room.lists);
+}
+
+static volatile uint64_t dividend = 1000, divisor = 7, quotient;
+static void divides_thrice(void) { quotient = dividend / divisor + dividend % (divisor + 1) + (uint32_t)dividend / (uint32_t)divisor; }
+
+/* A size is rounded once for the total and once for its offset. By a power of two no division is made for it; what still divides counts
+ * the records of each table, whatever the alignment. */
+static void divisions(void)
+{
+    static const uint32_t others[] = {3, 6, 7, 255, 257, 0x80000001, 0xffffffff};
+    const struct sigaction act = {.sa_sigaction = before_instruction, .sa_flags = SA_SIGINFO};
+    struct sigaction was;
+    must(sigaction(SIGTRAP, &act, &was) == 0, "a trap can be taken");
+    if (divisions_of(divides_thrice) == 0 && steps == 0) {
+        puts("C: this machine does not stop at each instruction: divisions were not counted");
+        return;
+    }
+    must(divided == 3, "divisions are counted");
+    for (size_t i = 0; i < ROUNDED; i++) {
+        const zakvind_entry e = {(uint16_t)i, i % 4 == 3, 0};
+        const zakvind_package p = {(uint16_t)i, 0};
+        zakvind_pack_entry(bare_entries + i * ZAKVIND_ENTRY_BYTES, &e);
+        zakvind_pack_package(bare_packages + i * ZAKVIND_PACKAGE_BYTES, &p);
+    }
+    alignment = 1;
+    const size_t least = divisions_of(build_bare);
+    for (int k = 0; k < 32; k++) {
+        alignment = (uint32_t)1 << k;
+        must(divisions_of(build_bare) == least && built.recorded == 1, "by a power of two no size is divided");
+    }
+    const size_t instructions = steps;
+    for (size_t i = 0; i < sizeof others / sizeof *others; i++) {
+        alignment = others[i];
+        must(divisions_of(build_bare) == least + 2 * 2 * ROUNDED && built.recorded == 1,
+             "by another alignment each size is");
+    }
+    printf("C: %zu of a build's %zu instructions divide, and %zu where the alignment is no power of two\n", least, instructions, (size_t)divided);
+    alignment = 256;
+    must(sigaction(SIGTRAP, &was, NULL) == 0, "the trap can be given back");
+}
+#else
+static void divisions(void) {}
+#endif
 
 int main(void)
 {
@@ -694,6 +782,7 @@ int main(void)
     many_refused();
     words();
     stacks();
+    divisions();
     puts("C: records, room, empty tables, written sheets, opened groups, appends and stack are as is said");
     return 0;
 }

@@ -156,12 +156,18 @@ fn slot_record(r: &mut Rng, present: bool, id: u64) -> [u64; 16] {
     s
 }
 
+/// Any power of two and the numbers beside it, and some others.
+fn alignment(r: &mut Rng) -> u64 {
+    let power = 1 << r.below(32);
+    r.pick(&[1, 2, 3, 6, 7, 16, 128, 256, 256, 256, 4096, 1 << 31, TOP32, power, power, (power - 1).max(1), power + 1])
+}
+
 fn make(r: &mut Rng) -> Made {
     let large = r.chance(2);
     let any = r.u64();
     let mut raw = Raw {
         version: 1,
-        alignment: r.pick(&[1, 2, 3, 16, 128, 256, 256, 256, 4096, 7, 1 << 31, TOP32]),
+        alignment: alignment(r),
         counter: r.pick(&[1, 1, 2, 5, 100, any, TOP, TOP - 1]),
         ..Raw::default()
     };

@@ -10,7 +10,7 @@ pub struct Reading {
 }
 
 /// How many faults there are, from 1 on; those of opened groups follow, then those of many appended instances.
-pub const FAULTS: u32 = 60;
+pub const FAULTS: u32 = 64;
 
 const TOP: u64 = u64::MAX;
 const TOP32: u64 = u32::MAX as u64;
@@ -222,7 +222,19 @@ impl<'a> Tables<'a> {
 }
 
 impl Reading {
+    /// By division, whatever the alignment; the faults are those of a mask.
     fn rounded(&self, size: u64, alignment: u64) -> u64 {
+        let mask = alignment - 1;
+        let power = alignment.is_power_of_two();
+        if self.is(61) || self.is(62) && alignment.count_ones() == 2 {
+            return size.saturating_add(mask) & !mask;
+        }
+        if self.is(63) && power {
+            return size.saturating_add(mask) & !(mask >> 1);
+        }
+        if self.is(64) && power {
+            return size.wrapping_add(mask) & !mask;
+        }
         let up = size.div_ceil(alignment) as u128 * alignment as u128;
         let stop = if self.is(12) { TOP - 1 } else { TOP };
         up.min(stop.into()) as u64

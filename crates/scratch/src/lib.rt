@@ -1,8 +1,9 @@
 // Scratch sizes: sums, products and roundings that stop at 2^64 - 1.
 ghost use mathlib.Core.Path.{_≡_};
+ghost use mathlib.Core.Bool.{true};
 ghost use Prim.Native.Nat.{_+_, _*_, _≤_};
 ghost use lib.Dec.{ltb};
-ghost use Rattle.scratch.specs.Scratch.{stopped, roundUp, addRounded};
+ghost use Rattle.scratch.specs.Scratch.{stopped, roundUp, addRounded, powerOfTwo};
 
 const MAX: u64 = 18446744073709551615;
 
@@ -31,7 +32,26 @@ pub fn product_above(a: u64, b: u64, limit: u64) -> bool
     limit / b < a
 }
 
-pub fn align_to(size: u64, alignment: u64) -> u64
+// No for 0.
+pub fn is_power_of_two(n: u64) -> bool
+    ensures { λ r. ⌜ r ≡ powerOfTwo n ⌝ }
+{
+    if n == 0 { false } else { n & (n - 1) == 0 }
+}
+
+// The way of a power of two: no division and no remainder, here or in what is called.
+fn align_by_mask(size: u64, alignment: u64) -> u64
+    requires { ⌜ powerOfTwo alignment ≡ true ⌝ }
+    ensures { λ r. ⌜ r ≡ stopped (roundUp size alignment) ⌝ }
+{
+    let mask = alignment - 1;
+    if MAX - mask < size {
+        return MAX;
+    }
+    (size + mask) & !mask
+}
+
+fn align_by_division(size: u64, alignment: u64) -> u64
     requires { ⌜ 1 ≤ alignment ⌝ }
     ensures { λ r. ⌜ r ≡ stopped (roundUp size alignment) ⌝ }
 {
@@ -40,6 +60,16 @@ pub fn align_to(size: u64, alignment: u64) -> u64
         return size;
     }
     saturating_add(size, alignment - over)
+}
+
+pub fn align_to(size: u64, alignment: u64) -> u64
+    requires { ⌜ 1 ≤ alignment ⌝ }
+    ensures { λ r. ⌜ r ≡ stopped (roundUp size alignment) ⌝ }
+{
+    if is_power_of_two(alignment) {
+        return align_by_mask(size, alignment);
+    }
+    align_by_division(size, alignment)
 }
 
 // One size added to a running total.

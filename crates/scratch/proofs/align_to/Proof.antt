@@ -1,24 +1,13 @@
--- `scratch::align_to` meets its contract, by the two cases of a rounding.
+-- `scratch::align_to` meets its contract: either way rounds, and the mask's is taken of a power of two.
 use borrow.Author.Needs.{needs}
-use native.Mathlib.Omega.{arith}
-use native.Mathlib.Nat.{mod-lt}
-use Rattle.scratch.proofs.Laws.{round-none, round-more}
+use mathlib.Core.Path.{sym, _∙_}
 use Rattle.scratch.proofs.align_to.Statement.{statement}
 use Rattle.scratch.proofs.align_to.Tie as tie
 
-returns : tie.Need-returns
-returns c =
-    let a = c .before .args in
-    omega (arith, round-none (a .size) (a .alignment) (omega arith) (omega arith))
-
-sub-saturating-add : tie.Need-sub-saturating-add
-sub-saturating-add c = omega (arith, mod-lt (c .before .args .size) (c .before .pre))
-
-returns-2 : tie.Need-returns-2
-returns-2 c =
-    let a = c .before .before .args in
-    omega (arith, round-more (a .size) (a .alignment) (omega arith) (omega arith))
+align-by-mask-requires : tie.Need-align-by-mask-requires
+align-by-mask-requires c κs = sym (c .before .is-power-of-two .ensures) ∙ c .if1 .taken
 
 pub align-to-spec : {M : Type 1} → statement M
 align-to-spec =
-    tie.close (tie.spec (λ c. search needs) returns sub-saturating-add (λ c κs. search needs) returns-2)
+    tie.close
+    (tie.spec (λ c κs. search needs) align-by-mask-requires (λ c. search needs) (λ c κs. search needs) (λ c. search needs))

@@ -1,0 +1,22 @@
+-- `scratch::align_by_mask` meets its contract: the mask clears what a division leaves over, and a sum past 2^64 - 1 rounds past it.
+use borrow.Author.Needs.{needs}
+use native.Mathlib.Omega.{arith}
+use Rattle.scratch.proofs.Powers.{power-positive, round-masked, round-past}
+use Rattle.scratch.proofs.align_by_mask.Statement.{statement}
+use Rattle.scratch.proofs.align_by_mask.Tie as tie
+
+sub-mask : tie.Need-sub-mask
+sub-mask c = power-positive 0 (c .args .alignment) (c .fits .alignment .fits) (c .pre)
+
+returns : tie.Need-returns
+returns c =
+    let a = c .before .args in
+    omega (arith, round-past (a .size) (a .alignment) (c .before .fits .alignment .fits) (c .before .pre) (omega arith))
+
+returns-2 : tie.Need-returns-2
+returns-2 c =
+    let a = c .before .args in
+    round-masked (a .size) (a .alignment) (c .before .fits .alignment .fits) (c .before .pre) (omega arith)
+
+pub align-by-mask-spec : {M : Type 1} → statement M
+align-by-mask-spec = tie.close (tie.spec sub-mask (λ c. search needs) returns (λ c. search needs) returns-2)
