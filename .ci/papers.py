@@ -170,32 +170,33 @@ for source in sorted((root / "crates").glob("*/src/**/*.rt")):
             if not re.search(rf"ensures \{{ λ \w+\. ⌜\s+{CALLS[function]}\s", head) or head.count("ensures {") != 1:
                 faults.append(f"{name}: the contract of {function} is not its one definition, {CALLS[function]}")
 
-# ---- ways on which nothing is divided: no `/` and no `%` in a function's body, nor in that of any function that it calls
-
-UNDIVIDED = ["scratch::is_power_of_two", "scratch::align_by_mask"]
+# ---- nothing is divided in the test for a power of two, nor past it: no `/` and no `%`, there or in any function that is called
 
 
 def bodies(crate):
-    """The bodies of a crate's functions, and what it uses, without comments."""
+    """The bodies of a crate's functions without comments, and which crate has what it uses."""
     text = re.sub(r"//.*", "", read(f"crates/{crate}/src/lib.rt"))
-    functions = {m.group(1): re.split(r"(?:^|(?<= ))\{$", m.group(0), maxsplit=1, flags=re.M)[-1]
-                 for m in re.finditer(r"^(?:pub )?fn (\w+)\(.*?^\}", text, re.M | re.S)}
-    return functions, dict(reversed(u.split("::")) for u in re.findall(r"^use (\w+::\w+);", text, re.M))
+    functions = re.findall(r"^(?:pub )?fn (\w+)\((.*?^\})", text, re.M | re.S)
+    brought = re.findall(r"^use (\w+)::(\w+);", text, re.M)
+    return {name: re.split(r"(?:^| )\{$", rest, maxsplit=1, flags=re.M)[-1] for name, rest in functions}, {name: of for of, name in brought}
 
 
-todo = list(UNDIVIDED)
+rounding = bodies("scratch")[0]
+past = re.search(r"if is_power_of_two\(alignment\) \{\s*return (.*?);\s*\}", rounding["align_to"], re.S)
+way = {"scratch::is_power_of_two": rounding.get("is_power_of_two"), "scratch::align_to, past its test,": past and past.group(1)}
+todo = list(way)
 for at in todo:
-    crate, function = at.split("::")
-    functions, brought = bodies(crate)
-    if function not in functions:
-        faults.append(f"{at}, on a way on which nothing is divided, is not there to be read")
+    crate = at.split("::")[0]
+    if way[at] is None:
+        faults.append(f"{at} is not there to be read, where nothing may be divided")
         continue
-    if re.search(r"[/%]", functions[function]):
-        faults.append(f"{at} divides, on a way on which nothing is divided")
-    for path, name in re.findall(r"(?:(\w+)::)?(\b[a-z]\w*)\(", functions[function]):
-        if name not in {"if", "while", "match", "return"}:
-            called = f"{path or brought.get(name, crate)}::{name}"
-            todo += [called] if called not in todo else []
+    if re.search(r"[/%]", way[at]):
+        faults.append(f"{at} divides")
+    for path, name in re.findall(r"(?:(\w+)::)?\b([a-z]\w*)\(", way[at]):
+        called = f"{path or bodies(crate)[1].get(name, crate)}::{name}"
+        if name not in {"if", "while", "match", "return"} and called not in way:
+            way[called] = bodies(called.split("::")[0])[0].get(name)
+            todo.append(called)
 
 # ---- definitions: a name has one meaning over all specs
 

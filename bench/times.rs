@@ -397,8 +397,19 @@ struct Rounding {
     division: f64,
 }
 
-fn rounding_row(name: &str, what: &str, shape: &Shape) -> Rounding {
-    let t = tables(shape).tables();
+/// 64 entries without geometries and 32 packages without slots: little but their scratch sizes, each more by so much.
+fn bare(more: u64) -> Raw {
+    let mut raw = tables(&Shape { geometries: 0, slots: 0, ..FULL });
+    for (section, field) in [(BLASES, blas::SCRATCH), (TLASES, tlas::SCRATCH)] {
+        for i in 0..raw.count(section) {
+            raw.set(section, i, field, 1000 + i as u64 + more);
+        }
+    }
+    raw
+}
+
+fn rounding_row(name: &str, what: &str, raw: &Raw) -> Rounding {
+    let t = raw.tables();
     let lent: [&[u8]; 8] = std::array::from_fn(|s| &t[s][..]);
     let out = std::cell::RefCell::new(Out::new());
     let build = |alignment| zakvind::raw::build(black_box(alignment), black_box(lent), out.borrow_mut().lend());
@@ -418,7 +429,7 @@ fn rounding_row(name: &str, what: &str, shape: &Shape) -> Rounding {
         ],
         &mut || {},
     );
-    Rounding { name: name.into(), what: what.into(), roundings: 2 * (shape.entries + shape.packages), mask, division }
+    Rounding { name: name.into(), what: what.into(), roundings: 2 * (raw.count(ENTRIES) + raw.count(PACKAGES)), mask, division }
 }
 
 fn build_row(name: &str, what: &str, shape: &Shape) -> Row {
@@ -627,9 +638,9 @@ fn main() {
     ];
     let (groups, refused) = groups_rows();
     let roundings = [
-        rounding_row("round-full", "build of full tables: 64 entries, 32 packages", &FULL),
-        rounding_row("round-typical", "build of typical tables: 8 entries, 2 packages", &TYPICAL),
-        rounding_row("round-packages", "build of 32 packages without slots", &Shape { entries: 0, geometries: 0, slots: 0, ..FULL }),
+        rounding_row("round-full", "build of full tables: 64 entries, 32 packages", &tables(&FULL)),
+        rounding_row("round-bare", "the same without geometries and slots", &bare(0)),
+        rounding_row("round-bare-large", "and with sizes above 2^33", &bare(1 << 33)),
     ];
     let growth: Vec<Row> = [1, 4, 16, 64]
         .map(|n| build_row(&format!("entries-{n}"), &format!("{n} entries, {} geometries", 4 * n), &only_entries(n)))

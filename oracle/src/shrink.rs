@@ -340,7 +340,7 @@ fn smaller_append(case: &Case, take: &mut dyn FnMut(Case) -> bool) -> bool {
 
 /// Fewer items, with as much less room too; then as of one.
 fn smaller_many(case: &Case, take: &mut dyn FnMut(Case) -> bool) -> bool {
-    let Case::Many { items, room, .. } = case else { return false };
+    let Case::Many { items, .. } = case else { return false };
     for less in without_units(items, 55) {
         let fewer = 64 * (items.len() / 55 - less.len() / 55);
         with!(take, case, Many, items: less.clone(), room: room.saturating_sub(fewer));

@@ -32,6 +32,16 @@ pub fn product_above(a: u64, b: u64, limit: u64) -> bool
     limit / b < a
 }
 
+pub fn align_to(size: u64, alignment: u64) -> u64
+    requires { ⌜ 1 ≤ alignment ⌝ }
+    ensures { λ r. ⌜ r ≡ stopped (roundUp size alignment) ⌝ }
+{
+    if is_power_of_two(alignment) {
+        return align_by_mask(size, alignment);
+    }
+    align_by_division(size, alignment)
+}
+
 // No for 0.
 pub fn is_power_of_two(n: u64) -> bool
     ensures { λ r. ⌜ r ≡ powerOfTwo n ⌝ }
@@ -60,16 +70,6 @@ fn align_by_division(size: u64, alignment: u64) -> u64
         return size;
     }
     saturating_add(size, alignment - over)
-}
-
-pub fn align_to(size: u64, alignment: u64) -> u64
-    requires { ⌜ 1 ≤ alignment ⌝ }
-    ensures { λ r. ⌜ r ≡ stopped (roundUp size alignment) ⌝ }
-{
-    if is_power_of_two(alignment) {
-        return align_by_mask(size, alignment);
-    }
-    align_by_division(size, alignment)
 }
 
 // One size added to a running total.
