@@ -165,12 +165,8 @@ fn alignment(r: &mut Rng) -> u64 {
 fn make(r: &mut Rng) -> Made {
     let large = r.chance(2);
     let any = r.u64();
-    let mut raw = Raw {
-        version: 1,
-        alignment: alignment(r),
-        counter: r.pick(&[1, 1, 2, 5, 100, any, TOP, TOP - 1]),
-        ..Raw::default()
-    };
+    let mut raw =
+        Raw { version: 1, alignment: alignment(r), counter: r.pick(&[1, 1, 2, 5, 100, any, TOP, TOP - 1]), ..Raw::default() };
     let size =
         |r: &mut Rng, most: u64, limit: u64| if large { r.pick(&[most, limit - 1, limit]) } else { r.from(1, most) } as usize;
     let (buffers, blases, tlases) = (size(r, 5, 256), size(r, 5, 128), size(r, 3, 32));
