@@ -42,14 +42,15 @@ pub fn align_to(size: u64, alignment: u64) -> u64
     align_by_division(size, alignment)
 }
 
-// No for 0.
+// A power of two has no bit in common with the number before it. 0 is none.
 pub fn is_power_of_two(n: u64) -> bool
     ensures { λ r. ⌜ r ≡ powerOfTwo n ⌝ }
 {
     if n == 0 { false } else { n & (n - 1) == 0 }
 }
 
-// The way of a power of two: no division and no remainder, here or in what is called.
+// The way of a power of two: no division and no remainder, here or in what is called. 2^64 is a multiple of each, so that a sum past
+// 2^64 - 1 rounds past it too.
 fn align_by_mask(size: u64, alignment: u64) -> u64
     requires { ⌜ powerOfTwo alignment ≡ true ⌝ }
     ensures { λ r. ⌜ r ≡ stopped (roundUp size alignment) ⌝ }
