@@ -170,7 +170,7 @@ for source in sorted((root / "crates").glob("*/src/**/*.rt")):
             if not re.search(rf"ensures \{{ λ \w+\. ⌜\s+{CALLS[function]}\s", head) or head.count("ensures {") != 1:
                 faults.append(f"{name}: the contract of {function} is not its one definition, {CALLS[function]}")
 
-# ---- nothing is divided in the test for a power of two, nor past it: no `/` and no `%`, there or in any function that is called
+# ---- nothing is divided by a power of two: no `/` and no `%` in align_to up to where it returns past its test, nor in what is called there
 
 
 def bodies(crate):
@@ -181,17 +181,16 @@ def bodies(crate):
     return {name: re.split(r"(?:^| )\{$", rest, maxsplit=1, flags=re.M)[-1] for name, rest in functions}, {name: of for of, name in brought}
 
 
-rounding = bodies("scratch")[0]
-past = re.search(r"if is_power_of_two\(alignment\) \{\s*return (.*?);\s*\}", rounding["align_to"], re.S)
-way = {"scratch::is_power_of_two": rounding.get("is_power_of_two"), "scratch::align_to, past its test,": past and past.group(1)}
+past = re.search(r".*?if is_power_of_two\(alignment\) \{\s*return [^;]*;\s*\}", bodies("scratch")[0].get("align_to", ""), re.S)
+way = {"scratch::align_to": past and past.group()}
 todo = list(way)
 for at in todo:
     crate = at.split("::")[0]
     if way[at] is None:
-        faults.append(f"{at} is not there to be read, where nothing may be divided")
+        faults.append(f"{at} is not there to be read as a way on which nothing is divided")
         continue
     if re.search(r"[/%]", way[at]):
-        faults.append(f"{at} divides")
+        faults.append(f"{at} divides on the way of a power of two")
     for path, name in re.findall(r"(?:(\w+)::)?\b([a-z]\w*)\(", way[at]):
         called = f"{path or bodies(crate)[1].get(name, crate)}::{name}"
         if name not in {"if", "while", "match", "return"} and called not in way:

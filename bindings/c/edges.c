@@ -729,19 +729,9 @@ static void build_bare(void)
 static volatile uint64_t dividend = 1000, divisor = 7, quotient;
 static void divides_thrice(void) { quotient = dividend / divisor + dividend % (divisor + 1) + (uint32_t)dividend / (uint32_t)divisor; }
 
-/* A size is rounded once for the total and once for its offset. By a power of two no division is made for it; what still divides counts
- * the records of each table, whatever the alignment. */
-static void divisions(void)
+static void count_divisions(void)
 {
     static const uint32_t others[] = {3, 6, 7, 255, 257, 0x80000001, 0xffffffff};
-    const struct sigaction act = {.sa_sigaction = before_instruction, .sa_flags = SA_SIGINFO};
-    struct sigaction was;
-    must(sigaction(SIGTRAP, &act, &was) == 0, "a trap can be taken");
-    if (divisions_of(divides_thrice) == 0 && steps == 0) {
-        puts("C: this machine does not stop at each instruction: divisions were not counted");
-        return;
-    }
-    must(divided == 3, "divisions are counted");
     for (size_t i = 0; i < ROUNDED; i++) {
         const zakvind_entry e = {(uint16_t)i, i % 4 == 3, 0};
         const zakvind_package p = {(uint16_t)i, 0};
@@ -749,19 +739,33 @@ static void divisions(void)
         zakvind_pack_package(bare_packages + i * ZAKVIND_PACKAGE_BYTES, &p);
     }
     alignment = 1;
-    const size_t least = divisions_of(build_bare);
+    const size_t least = divisions_of(build_bare), instructions = steps;
     for (int k = 0; k < 32; k++) {
         alignment = (uint32_t)1 << k;
         must(divisions_of(build_bare) == least && built.recorded == 1, "by a power of two no size is divided");
     }
-    const size_t instructions = steps;
     for (size_t i = 0; i < sizeof others / sizeof *others; i++) {
         alignment = others[i];
-        must(divisions_of(build_bare) == least + 2 * 2 * ROUNDED && built.recorded == 1,
-             "by another alignment each size is");
+        must(divisions_of(build_bare) == least + 2 * 2 * ROUNDED && built.recorded == 1, "by another alignment each size is");
     }
     printf("C: %zu of a build's %zu instructions divide, and %zu where the alignment is no power of two\n", least, instructions, (size_t)divided);
     alignment = 256;
+}
+
+/* A size is rounded once for the total and once for its offset. By a power of two no division is made for it; what still divides counts
+ * records, whatever the alignment. */
+static void divisions(void)
+{
+    const struct sigaction act = {.sa_sigaction = before_instruction, .sa_flags = SA_SIGINFO};
+    struct sigaction was;
+    must(sigaction(SIGTRAP, &act, &was) == 0, "a trap can be taken");
+    const size_t three = divisions_of(divides_thrice);
+    if (steps == 0) {
+        puts("C: this machine does not stop at each instruction: divisions were not counted");
+    } else {
+        must(three == 3, "divisions are counted");
+        count_divisions();
+    }
     must(sigaction(SIGTRAP, &was, NULL) == 0, "the trap can be given back");
 }
 #else

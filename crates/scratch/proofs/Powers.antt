@@ -2,14 +2,14 @@
 use mathlib.Core.Path.{_≡_, refl, sym, ap, _∙_}
 use mathlib.Core.Bool.{Bool, true, false, _||_, or-true, false≢true}
 use mathlib.Core.Logic.{_↔_}
-use Prim.Native.Nat.{ℕ, zero, suc, _+_, _-_, _*_, _/_, _%_, _^_, _≤_, _<_}
+use Prim.Native.Nat.{ℕ, zero, suc, _+_, _-_, _*_, _/_, _^_, _≤_, _<_}
 use native.Mathlib.Nat.{le-div-iff-mul-le, mul-le-mul-right, lt-of-not-le, not-le-of-lt, mod-self, pow-suc}
 use native.Mathlib.Omega.{arith}
 use lib.Bits.{bitAnd, and-mask, and-le-l, and-self, and-block, and-high}
 use lib.Count.{leading-top}
 use lib.Dec.{ltb, eqb}
 use lib.Pow.{pow-pos, pow-mono, pow-add, shr-mod}
-use borrow.Author.Tests.{ltb-true, ltb-false, eqb-true, eq-eqb, ne-eqb}
+use borrow.Author.Tests.{ltb-true, ltb-false, eqb-true, eq-eqb}
 use Rattle.scratch.specs.Scratch.{stopped, roundUp, PowerOfTwo, powerBelow, powerOfTwo}
 
 -- ---- the sentence, and trying each
@@ -71,19 +71,22 @@ alone n h l e =
     go j low high false q = (j, omega (arith, low, ltb-false (2 ^ j) n q))
 
 module _ (n : ℕ) (h : n < 2 ^ 64) where
-  pub power-none : n ≡ 0 → false ≡ powerOfTwo n
-  power-none e = go (powerOfTwo n) refl
+  -- whatever is yes exactly for the powers of two is the test
+  tells : (b : Bool) → (b ≡ true → PowerOfTwo n) → (PowerOfTwo n → b ≡ true) → b ≡ powerOfTwo n
+  tells true f g = sym (power-exactly n h .1 (f refl))
+  tells false f g = go (powerOfTwo n) refl
     where
       go : (t : Bool) → powerOfTwo n ≡ t → false ≡ t
-      go true q = absurd (omega (arith, e, pow-pos (power-exactly n h .0 q .0), power-exactly n h .0 q .1))
+      go true q = g (power-exactly n h .0 q)
       go false q = refl
 
+  pub power-none : n ≡ 0 → false ≡ powerOfTwo n
+  power-none e = tells false (λ q. absurd (false≢true q)) (λ p. absurd (omega (arith, e, pow-pos (p .0), p .1)))
+
   pub power-bits : 0 < n → eqb (bitAnd n (n - 1)) 0 ≡ powerOfTwo n
-  power-bits l = go (powerOfTwo n) refl
-    where
-      go : (t : Bool) → powerOfTwo n ≡ t → eqb (bitAnd n (n - 1)) 0 ≡ t
-      go true q = eq-eqb (bitAnd n (n - 1)) 0 (apart n (power-exactly n h .0 q))
-      go false q = ne-eqb (bitAnd n (n - 1)) 0 (λ z. false≢true (sym q ∙ power-exactly n h .1 (alone n l h z)))
+  power-bits l =
+      let bits = bitAnd n (n - 1) in
+      tells (eqb bits 0) (λ q. alone n l h (eqb-true bits 0 q)) (λ p. eq-eqb bits 0 (apart n p))
 
 -- ---- rounding by a mask
 
@@ -105,23 +108,23 @@ module _ (n k : ℕ) (h : k < 64) where
       let reached : 2 ^ (64 - k) ≤ (n + (2 ^ k - 1)) / 2 ^ k = le-div-iff-mul-le (pow-pos k) .1 (omega (arith, whole)) in
       omega (arith, whole, mul-le-mul-right (2 ^ k) reached)
 
-module _ (n a : ℕ) (h : a < 2 ^ 64) (e : powerOfTwo a ≡ true) where
-  p : PowerOfTwo a
-  p = power-exactly a h .0 e
+module _ (a : ℕ) (h : a < 2 ^ 64) (e : powerOfTwo a ≡ true) where
+  power : PowerOfTwo a
+  power = power-exactly a h .0 e
 
-  small : p .0 < 64
-  small = exponent-below (p .0) 64 (rw (← (p .1)) h)
+  exponent-small : power .0 < 64
+  exponent-small = exponent-below (power .0) 64 (rw (← (power .1)) h)
 
   pub power-positive : 1 ≤ a
-  power-positive = omega (arith, pow-pos (p .0), p .1)
+  power-positive = omega (arith, pow-pos (power .0), power .1)
 
   -- what the mask leaves of the sum is the sum divided and multiplied again
-  cleared : n + (a - 1) < 2 ^ 64 → bitAnd (n + (a - 1)) ((2 ^ 64 - 1) - (a - 1)) ≡ roundUp n a
-  cleared l = rw (p .1) (masked (n + (2 ^ (p .0) - 1)) (p .0) small (rw (← (p .1)) l))
+  cleared : (n : ℕ) → n + (a - 1) < 2 ^ 64 → bitAnd (n + (a - 1)) ((2 ^ 64 - 1) - (a - 1)) ≡ roundUp n a
+  cleared n l = rw (power .1) (masked (n + (2 ^ (power .0) - 1)) (power .0) exponent-small (rw (← (power .1)) l))
 
-  pub round-masked : n + (a - 1) < 2 ^ 64 → bitAnd (n + (a - 1)) ((2 ^ 64 - 1) - (a - 1)) ≡ stopped (roundUp n a)
-  round-masked l = omega (arith, cleared l, and-le-l (n + (a - 1)) ((2 ^ 64 - 1) - (a - 1)))
+  pub round-masked : (n m : ℕ) → m ≡ a - 1 → n + (a - 1) < 2 ^ 64 → bitAnd (n + (a - 1)) ((2 ^ 64 - 1) - m) ≡ stopped (roundUp n a)
+  round-masked n m e l = rw e (omega (arith, cleared n l, and-le-l (n + (a - 1)) ((2 ^ 64 - 1) - (a - 1))))
 
   -- a sum past 2^64 - 1 rounds past it
-  pub round-past : 2 ^ 64 ≤ n + (a - 1) → 2 ^ 64 ≤ roundUp n a
-  round-past l = rw (p .1) (past n (p .0) small (rw (← (p .1)) l))
+  pub round-past : (n : ℕ) → 2 ^ 64 ≤ n + (a - 1) → 2 ^ 64 ≤ roundUp n a
+  round-past n l = rw (power .1) (past n (power .0) exponent-small (rw (← (power .1)) l))

@@ -6,17 +6,17 @@ use Rattle.scratch.proofs.align_by_mask.Statement.{statement}
 use Rattle.scratch.proofs.align_by_mask.Tie as tie
 
 sub-mask : tie.Need-sub-mask
-sub-mask c = power-positive 0 (c .args .alignment) (c .fits .alignment .fits) (c .pre)
+sub-mask c = power-positive (c .args .alignment) (c .fits .alignment .fits) (c .pre)
 
 returns : tie.Need-returns
 returns c =
     let a = c .before .args in
-    omega (arith, round-past (a .size) (a .alignment) (c .before .fits .alignment .fits) (c .before .pre) (omega arith))
+    omega (arith, round-past (a .alignment) (c .before .fits .alignment .fits) (c .before .pre) (a .size) (omega arith))
 
 returns-2 : tie.Need-returns-2
 returns-2 c =
     let a = c .before .args in
-    round-masked (a .size) (a .alignment) (c .before .fits .alignment .fits) (c .before .pre) (omega arith)
+    round-masked (a .alignment) (c .before .fits .alignment .fits) (c .before .pre) (a .size) _ (omega arith) (omega arith)
 
 pub align-by-mask-spec : {M : Type 1} → statement M
 align-by-mask-spec = tie.close (tie.spec sub-mask (λ c. search needs) returns (λ c. search needs) returns-2)
