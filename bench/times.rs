@@ -432,6 +432,51 @@ fn rounding_row(name: &str, what: &str, raw: &Raw) -> Rounding {
     Rounding { name: name.into(), what: what.into(), roundings: 2 * (raw.count(ENTRIES) + raw.count(PACKAGES)), mask, division }
 }
 
+/// Nanoseconds of a build that is refused by 37 and names the entry, and of the hunt for that entry without its name.
+struct Hunt {
+    name: String,
+    what: String,
+    builds: usize,
+    ours: f64,
+    hunt: f64,
+}
+
+/// 64 entries of 2^58 bytes each: none stands out, and with the last the running total would be 2^64.
+fn hunted() -> Hunt {
+    let shape = only_entries(64);
+    let mut raw = tables(&shape);
+    for i in 0..shape.blases {
+        raw.set(BLASES, i, blas::SCRATCH, 1 << 58);
+    }
+    let t = raw.tables();
+    let lent: [&[u8]; 8] = std::array::from_fn(|s| &t[s][..]);
+    let out = std::cell::RefCell::new(Out::new());
+    let build = |lent| zakvind::raw::build(256, black_box(lent), out.borrow_mut().lend());
+    let first = |n: usize| {
+        let mut lent = lent;
+        lent[ENTRIES] = &lent[ENTRIES][..n * SIZES[ENTRIES]];
+        lent[GEOMETRIES] = &lent[GEOMETRIES][..n * shape.geometries / shape.entries * SIZES[GEOMETRIES]];
+        lent
+    };
+    let hunt = || (1..=shape.entries).find(|&n| build(first(n)).number == 37);
+    let a = build(lent);
+    assert_eq!((a.number, a.e, a.figures), (37, [63, 0], [1, 0, 0]));
+    let builds = hunt().unwrap();
+    assert_eq!(builds as u64, a.e[0] + 1);
+    let [ours, hunt] = times(
+        [
+            &mut || {
+                black_box(build(lent));
+            },
+            &mut || {
+                black_box(hunt());
+            },
+        ],
+        &mut || {},
+    );
+    Hunt { name: "scratch-64".into(), what: "a refused build of 64 entries that names the entry (37)".into(), builds, ours, hunt }
+}
+
 fn build_row(name: &str, what: &str, shape: &Shape) -> Row {
     let raw = tables(shape);
     let t = raw.tables();
@@ -642,6 +687,7 @@ fn main() {
         rounding_row("round-bare", "the same without geometries and slots", &bare(0)),
         rounding_row("round-bare-large", "and with sizes above 2^33", &bare(1 << 33)),
     ];
+    let hunts = [hunted()];
     let growth: Vec<Row> = [1, 4, 16, 64]
         .map(|n| build_row(&format!("entries-{n}"), &format!("{n} entries, {} geometries", 4 * n), &only_entries(n)))
         .into_iter()
@@ -673,6 +719,11 @@ fn main() {
         let times = [r.mask, r.division].map(micro).join(" | ");
         let each = (r.division - r.mask) / r.roundings as f64;
         let _ = writeln!(rounding, "| {} | {} | {times} | {:.2} | {each:.1} ns |", r.what, r.roundings, r.division / r.mask);
+    }
+    let mut hunting = String::new();
+    for r in &hunts {
+        let times = [r.ours, r.hunt].map(micro).join(" | ");
+        let _ = writeln!(hunting, "| {} | {times} | {} | {:.2} |", r.what, r.builds, r.hunt / r.ours);
     }
     let instances = rows.iter().find(|r| r.name == "instances-512").unwrap();
     let table = |rows: &[Row]| {
@@ -718,6 +769,10 @@ fn main() {
          instead. The same builds to 256 and to 255; the ratio is division / mask, and the last column what a division costs more, by the \
          difference of the two.\n\n\
          | What | roundings | to 256 | to 255 | ratio | more, each |\n|---|---|---|---|---|---|\n{rounding}\n\
+         The entry at which scratch reaches 2^64 - 1, here the last: named by the one refused build, against the hunt that there is without \
+         its name, by builds of the first entry, the first two, and so on with their geometries until one is refused by 37. The ratio is \
+         hunt / ours.\n\n\
+         | What | one build | hunt | its builds | ratio |\n|---|---|---|---|---|\n{hunting}\n\
          The program `zakvind` on a full sheet, from its start to its end: {program}.\n\n\
          ## How it grows\n\n\
          | Work | Rust | Rust, made | Zakvind | ratio | made |\n|---|---|---|---|---|---|\n{growth}\n\
@@ -786,6 +841,9 @@ fn main() {
     }
     for r in &roundings {
         println!("round {} {:.2}", r.name, r.division / r.mask);
+    }
+    for r in &hunts {
+        println!("hunt {} {:.2}", r.name, r.hunt / r.ours);
     }
     if let Some(file) = std::env::args().nth(1) {
         std::fs::write(&file, paper).unwrap_or_else(|e| panic!("{file}: {e}"));

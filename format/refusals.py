@@ -45,7 +45,7 @@ CAUSES = {
     34: Cause("custom data from 2^24 on"),
     35: Cause("Tlas returns vertices, Blas does not"),
     36: Cause("too many present slots", ("count", "most"), "E, count, most"),
-    37: Cause("scratch 2^64 - 1", (), "0, 0"),
+    37: Cause("scratch 2^64 - 1", (), "E, 1 for an entry or 2 for a package: the first whose running total is 2^64 - 1 or more"),
     38: Cause("compacted Blas"),
     39: Cause("lent output too short", (), "0, 0"),
     40: Cause("counter 0", (), "action"),

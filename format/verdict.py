@@ -50,8 +50,8 @@ class Verdict:
         self.named = missing_words(missing, self.walked.count_of(missing.of))
 
     def build_place(self):
-        """The record that the program's words name, counted in its section."""
-        found = re.search(r"(entry|package) (\d+)(?:, (geometry|slot) (\d+))?", self.words)
+        """The record that the program's words name, counted in its section; none where they leave open which of two it is."""
+        found = re.search(r"(?<!or )(entry|package) (\d+)(?:, (geometry|slot) (\d+))?", self.words)
         if not found:
             return (0, -1, "")
         number, i = (5, int(found[2])) if found[1] == "entry" else (7, int(found[2]))

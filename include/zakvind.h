@@ -64,7 +64,7 @@ enum {
     ZAKVIND_TLAS_INVALID_CUSTOM_INDEX = 34,
     ZAKVIND_TLAS_DEPENDENT_MISSING_VERTEX_RETURN = 35,
     ZAKVIND_TLAS_INSTANCE_COUNT_EXCEEDED = 36,            /* count, most */
-    ZAKVIND_OUT_OF_MEMORY = 37,
+    ZAKVIND_OUT_OF_MEMORY = 37,                           /* 1: e0 is an entry, 2: a package */
     ZAKVIND_COMPACTED_BLAS = 38,
     ZAKVIND_OUTPUT_TOO_SHORT = 39,
     ZAKVIND_COUNTER_EXHAUSTED = 40,
@@ -119,7 +119,7 @@ typedef struct {
 
 typedef struct {
     uint64_t number;
-    uint64_t e0, e1;     /* entry and geometry, package and slot; for 4 and 5 section and record */
+    uint64_t e0, e1;     /* entry and geometry, package and slot, of 37 as f0 says; for 4 and 5 section and record */
     uint64_t f0, f1, f2; /* figures */
     uint64_t recorded;   /* 1, or 0: nothing recorded, only init_ranges written */
     uint64_t scratch_size;
@@ -241,7 +241,9 @@ zakvind_opened zakvind_open_groups(const uint8_t *groups, size_t groups_len, uin
 /* Judges a build and writes its plan: an offset for each entry, one for each package, start and end of each package's
  * staging range, 64 bytes for each present slot, buffer, start and end of each initialisation range, the compactable Blases,
  * and the recorded action's lists, which zakvind_submit takes as (1, 0, entries, packages).
- * Refuses by 4 to 6 and 10 to 39; by 39 with e and figures 0, see zakvind_room_for. */
+ * Refuses by 4 to 6 and 10 to 39; by 37 with f0 1 at the first entry at which the running Blas total reaches 2^64 - 1 or would
+ * pass it, and if the Blas total stays below, with f0 2 at the first such package; by 39 with e and figures 0, see
+ * zakvind_room_for. */
 zakvind_built zakvind_build(
     uint32_t alignment,
     const uint8_t *buffers, size_t buffers_len,

@@ -25,7 +25,7 @@ def compare(command, lines):
     parts = [re.fullmatch(r"  (.+?) +(\d+) +(\d+) +(\d+)", line) for line, row in zip(lines, rows) if not row]
     out += ["", f"| Call | No. | {marks}", "|---|---|---|---|---|"]
     out += ["| " + " | ".join((r[1], r[2], *map(number, r.groups()[2:]))) + " |" for r in rows if r]
-    out += ["", f"| Of accepted answers, and of 39 | {marks}", "|---|---|---|---|"]
+    out += ["", f"| Of accepted answers, of 37 and of 39 | {marks}", "|---|---|---|---|"]
     out += ["| " + " | ".join((p[1], *map(number, p.groups()[1:]))) + " |" for p in parts if p]
     out += ["", next(line for line in lines if line.startswith("not reached")).capitalize() + "."]
     return "\n".join(out) + "\n"

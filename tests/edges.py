@@ -841,6 +841,47 @@ def test_id_words():
         assert words_of(data) == words, (words_of(data), words)
 
 
+def sized(blas_sizes, tlas_sizes, alignment=1):
+    """The sheet of a text: entries without geometries, each of a Blas of its own with such a scratch size, and so of packages and Tlases,
+    each of which has one slot, of Blas 0. The ids run the other way, so that none is taken for the entry or the package."""
+    lines = [f"alignment {alignment}", "counter 1"]
+    lines += [f"blas: scratch {n}" for n in blas_sizes[::-1]] + [f"tlas: scratch {n}, most_instances 1" for n in tlas_sizes[::-1]]
+    lines += [f"entry: blas {i}" for i in reversed(range(len(blas_sizes)))]
+    lines += [line for i in reversed(range(len(tlas_sizes))) for line in (f"package: tlas {i}", f"    slot: blas 0, at {i} 0 0")]
+    run = Run(box, "--make", input="\n".join([*lines, "action: kind build", ""]).encode())
+    assert run.status == 0 and not run.err, run
+    return run.out
+
+
+TOP = 2**64 - 1
+# what reaches 2^64 - 1: sizes of Blases and Tlases, the alignment, and what is named
+REACHED = (
+    (([TOP], [], 1), "entry 0"),
+    (([7, TOP - 254, 0], [1], 256), "entry 1"),
+    (([2**63, 5, 2**63 - 6, 9], [1, 1], 1), "entry 2"),
+    (([2**63, 2**63], [TOP], 1), "entry 1"),
+    (([2**58] * 64, [1], 256), "entry 63"),
+    (([TOP - 1], [TOP - 1, 1], 1), "package 1"),
+    (([0], [2**63, 2**63, 3], 1), "package 1"),
+    (([3], [2**59] * 32, 1), "package 31"),
+)
+
+
+def test_scratch_words():
+    """A build's 37 says at which entry or package, in numbers and in words; one less is accepted."""
+    for sizes, named in REACHED:
+        data = sized(*sizes)
+        what, i = named.split()
+        line = f"build 37 {i} 0 {1 if what == 'entry' else 2} 0 0\n"
+        words = f"{line}refused 37: scratch 2^64 - 1, {named}\n"
+        for verb, out in (((), line), (("--explain",), words)):
+            run = Run(box, *verb, input=data)
+            assert run.status == 1 and run.out.decode() == out and not run.err, (named, run)
+        assert explained(data) == words
+    run = Run(box, input=sized([2**63, 5, 2**63 - 7], [2**63, 2**63 - 2]))
+    assert run.status == 0 and run.out.startswith(b"build 0 0 0 0 0 0\nscratch 18446744073709551614\nblas 2 0\n") and not run.err, run
+
+
 def test_words_agree():
     """For recorded sheets and at random the format finds the field that the program refuses: Verdict raises where it does not."""
     named = 0
@@ -971,6 +1012,17 @@ def test_show_marks():
     text = shown(sheet("rebuilt")).splitlines()
     at = next(i for i, line in enumerate(text) if "# REFUSED 44" in line)
     assert text[at + 1].startswith("action 4:")
+    for sizes, named in REACHED:
+        data = sized(*sizes)
+        run = Run(box, "--show", input=data)
+        assert run.status == 1 and run.out.decode() == shown(data) and not run.err, run
+        text = shown(data).splitlines()
+        at = text.index(f"# REFUSED 37: scratch 2^64 - 1, {named}")
+        assert text[at + 1].startswith(f"{named}:") and shown(data).count("REFUSED") == 1, (named, text)
+    # words that leave open which it is mark the sheet, and no record
+    verdict = Verdict(Walked(data), "build 37 1 0 0 0 0\nrefused 37: scratch 2^64 - 1, entry or package 1\n")
+    assert show(Walked(data), verdict).startswith("# REFUSED 37: scratch 2^64 - 1, entry or package 1\n")
+    assert show(Walked(data), verdict).count("REFUSED") == 1
     assert "blas 9 (outside: there are 3 blases)" in shown(build_of(("entries", 1, 0, 9), ("slots", 2, 1, 9)))
     assert "(unused)" in shown(build_of())
     # every record of every refused sheet that is marked is marked once
@@ -1092,6 +1144,15 @@ def test_pictures():
     assert "refused 44: Blas newer" in text and "Tlas 1 (package 1), 4 instances, refused" in text and text.count('stroke="#c62828"') == 2
     assert "refused 23" in drawing(sheet("refused-build")) and "Blas 0: triangles, 16 instances, refused" in drawing(sheet("refused-build"))
     assert "byte 1998: slot 26" in drawing(sheet("damaged"))
+    for sizes, named in REACHED:
+        data = sized(*sizes)
+        run = Run(box, "--picture", input=data)
+        assert run.status == 1 and f"scratch 2^64 - 1, {named}<".encode() in run.out and not run.err, run
+        text = drawing(data)
+        what, i = named.split()
+        id = len(sizes[what == "package"]) - 1 - int(i)
+        red = f"Blas {id}: triangles, {0 if id else len(sizes[1])} instances" if what == "entry" else f"Tlas {id} (package {i}), 1 instances"
+        assert f"refused 37: scratch 2^64 - 1, {named}<" in text and text.count(", refused<") == 1 and f"{red}, refused<" in text, (named, text)
     text = drawing(build_of(("slots", 2, 1, 7)))
     assert "package 0, slot 2: blas is 7" in text and "Blas 7: outside the table" in text and "#c62828" in text
     assert "far off" not in text

@@ -4,14 +4,20 @@
 A case: sixteen u32, the scratch alignment, the lengths of the eight tables in bytes and of the seven lent outputs in elements; then the
 tables. Its line: number, E, three figures, recorded, scratch size, how many elements of each output are written, and a hash of each
 output's whole array, which was filled with a pattern before.
+
+The reading is held to itself for 37: the place is the first one up to which the sizes, each rounded, sum to 2^64 - 1 or more; and the builds
+that are refused by it are those whose larger total comes to 2^64 - 1 where roundings and sums stop there.
 """
 import copy
+import functools
 import pathlib
 import random
 import struct
+from collections import Counter
 
 from make_read_cases import record
 from paper import NONE, U64, build
+from rounding import rounded
 
 ARRAYS = (72, 40, 80, 33024, 2400, 72, 700)
 BYTES = (8, 8, 8, 1, 8, 2, 2)
@@ -117,11 +123,134 @@ def refusals():
     # 37 and totals
     yield changed((b, 0, 4, U64)), changed((t, 0, 2, U64)), changed((None, 0, 0, 1), (b, 0, 4, U64 - 523)), changed((None, 0, 0, 1), (b, 0, 4, U64 - 1034), (b, 1, 4, 0), (b, 2, 4, 1034))
     yield changed((None, 0, 0, 7), (b, 0, 4, U64 - 2), (b, 1, 4, 0), (b, 2, 4, 0)), changed((None, 0, 0, 2**32 - 1))
-    # nothing recorded: zero scratch comes before destroyed and compacted
     zero = [(b, 0, 4, 0), (b, 1, 4, 0), (b, 2, 4, 0), (t, 0, 2, 0), (t, 1, 2, 0)]
+    # the other entries, the other package, and by a Blas and a Tlas that come again; half of 2^64 twice would wrap to 0
+    yield changed((b, 1, 4, U64)), changed((b, 2, 4, U64)), changed((t, 1, 2, U64))
+    for size in (2**63 - 1, 2**63):
+        for some in ([(b, 0, 4, size)], [(t, 0, 2, size)]):
+            yield changed((None, 0, 0, 1), *some), changed(*zero, (None, 0, 0, 1), *some), changed(*zero, (None, 0, 0, 3), *some), changed(*zero, *some)
+    # an entry before a package that gets there sooner; a Blas total of 2^64 - 2 leaves it to the package
+    yield changed(*zero, (b, 0, 4, 2**63), (t, 0, 2, U64)), changed(*zero, (None, 0, 0, 1), (b, 0, 4, 2**63 - 1), (t, 1, 2, U64))
+    # 37 before 21 and 38, and after what is refused of ids, geometries and slots
+    for top in ((b, 0, 4, U64), (t, 0, 2, U64)):
+        yield changed(top, (t, 0, 1, 1)), changed(top, (b, 0, 3, 1)), changed(top, (b, 0, 2, 3)), changed(top, (t, 1, 1, 1), (b, 1, 3, 1), (b, 2, 2, 3))
+        yield changed(top, ("packages", 1, 0, 2)), changed(top, (g, 3, 3, 16)), changed(top, ("slots", 3, 1, 0)), changed(top, (t, 1, 3, 0))
+    # nothing recorded: zero scratch comes before destroyed and compacted
     yield changed(*zero), changed(*zero, (b, 0, 2, 3), (t, 0, 1, 1), (b, 0, 3, 1))
+    yield changed(*zero, *((b, i, j, v) for i in range(3) for j, v in ((2, 3), (3, 1))), (t, 0, 1, 1), (t, 1, 1, 1))
     # 21, 38
     yield changed((t, 0, 1, 1)), changed((t, 1, 1, 1), (b, 0, 3, 1)), changed((b, 0, 3, 1)), changed((b, 1, 3, 1), (b, 0, 2, 3)), changed((b, 0, 2, 3)), changed((b, 2, 2, 3), (b, 2, 3, 1))
+
+
+def needing(alignment, blases, tlases):
+    """A build whose entries and packages need these sizes and have neither geometries nor slots. Their Blases and Tlases come in another order,
+    where there is room after one that no entry or package names: a place is no id, and only what is built counts."""
+    x = dict({name: [] for name in SECTIONS}, alignment=alignment)
+    x["blases"] = [[0, 4, 0, 0, size, 4096, 1] for size in (U64, *reversed(blases))]
+    x["entries"] = [[len(blases) - i, 0, 0] for i in range(len(blases))]
+    one = len(tlases) < 32
+    x["tlases"] = [[0, 0, size, 0, 1] for size in (*[U64] * one, *reversed(tlases))]
+    x["packages"] = [[len(tlases) - 1 + one - i, 0] for i in range(len(tlases))]
+    return x
+
+
+def rounded_once():
+    """Alignments and sizes: one size about the last multiple, in the first, a middle and the last place. Of these alignments 1, 2, 7, 14 and 127
+    divide 2^64 - 2; 3, 5, 255, 257, 641, 65537 and 2^32 - 1 divide 2^64 - 1; and powers of two divide 2^64."""
+    for a in (1, 2, 3, 5, 7, 14, 127, 255, 256, 257, 641, 65537, 2**31, 2**32 - 2, 2**32 - 1):
+        last = U64 // a * a
+        for size in sorted({last - a, last - a + 1, last, last + 1, U64 - 1, U64} - {U64 + 1}):
+            for at in range(3):
+                yield a, [size if i == at else 0 for i in range(3)]
+
+
+def summed():
+    """Alignments and sizes: two and three sizes that sum to 2^64 - 2, 2^64 - 1 or 2^64, each as far below its multiple as it can be, at the
+    start, at the end with zeros between, and with more to come."""
+    for total, some in ((U64 - 1, (1, 2, 7, 127)), (U64, (1, 3, 255, 2**32 - 1)), (U64 + 1, (1, 2, 256, 2**31))):
+        for a in some:
+            half, third = total // a // 2 * a, total // a // 3 * a
+            for parts in ((half, total - half), (a, total - a), (total - a, a), (third, third, total - 2 * third)):
+                sizes = [part - a + 1 for part in parts]
+                yield from ((a, [*sizes, 0]), (a, [n for size in sizes for n in (0, size)]), (a, [*sizes, *sizes]))
+
+
+def sides():
+    """Pairs of sizes of Blases and of Tlases, to the alignment 1: every pair of totals that are 0, small, just below 2^64 - 1, at it and past it."""
+    some = ([], [0, 0], [5], [U64 - 1, 0], [U64], [0, 0, U64], [U64 - 1, 0, 1], [U64 - 1, 2, U64], [2**63, 2**63])
+    return ((blases, tlases) for blases in some for tlases in some)
+
+
+def largest_tables():
+    """As many entries and packages as there may be, the place anywhere among them."""
+    for at in (0, 1, 31, 32, 62, 63):
+        yield needing(256, [U64 if i == at else i for i in range(64)], [0] * 32)
+    for at in (0, 1, 15, 16, 30, 31):
+        yield needing(256, [0] * 64, [U64 if i == at else i for i in range(32)])
+    # each about as large as it may be: the last one decides
+    for less in range(4):
+        blases, tlases = [2**58] * 63 + [2**58 - less], [2**59] * 31 + [2**59 - less]
+        yield needing(1, blases, [5] * 32)
+        yield needing(1, [5] * 64, tlases)
+        yield needing(1, blases, tlases)
+        yield needing(4, blases, [7] * 32)
+        yield needing(4, [7] * 64, tlases)
+    yield needing(1, [2**58] * 63 + [2**58 - 2], [2**59] * 31 + [2**59 - 1])
+    yield needing(2**31, [2**58 - 2**31 + 1] * 64, [2**59 - 2**31 + 1] * 32)
+    # one Blas in all entries, one Tlas in all packages
+    for size, most in ((2**58, 2**59), (2**58 - 1, 2**59), (2**58 - 1, 2**59 - 1)):
+        x = needing(1, [size], [most])
+        x["entries"], x["packages"] = x["entries"] * 64, x["packages"] * 32
+        yield x
+
+
+def some_sizes(choose, a, most):
+    """Parts of a total that is often about 2^64 - 1, as they are or as multiples."""
+    n = choose.choice((0, 1, 2, 3, 5, choose.randint(1, most)))
+    total = choose.choice((0, U64 - 1, U64, U64 + 1, U64 - a, U64 - choose.randrange(64 * a), choose.randrange(U64), choose.randrange(2**40)))
+    step = choose.choice((1, a))
+    cuts = sorted(choose.randrange(total // step + 1) * step for _ in range(n - 1))
+    parts = [end - start for start, end in zip([0, *cuts], [*cuts, total])][:n]
+    parts += [0] * choose.randint(0, min(3, most - n))
+    choose.shuffle(parts)
+    return [min(part, U64) for part in parts]
+
+
+def marked(x):
+    """With all that is built destroyed, and each Blas compacted."""
+    for r in x["blases"]:
+        r[2:4] = 3, 1
+    for r in x["tlases"]:
+        r[1] = 1
+    return x
+
+
+def random_totals():
+    choose = random.Random(5)
+    for _ in range(300):
+        a = choose.choice((1, 2, 3, 7, 255, 256, 65537, 2**31, 2**32 - 1, choose.randrange(1, 2**32)))
+        x = needing(a, some_sizes(choose, a, 64), some_sizes(choose, a, 32))
+        yield marked(x) if choose.random() < 0.2 else x
+    for _ in range(100):
+        x = base()
+        x["alignment"] = choose.choice((1, 3, 7, 256, choose.randrange(1, 2**32)))
+        for r, at in [(r, 4) for r in x["blases"]] + [(r, 2) for r in x["tlases"]]:
+            r[at] = choose.choice((0, r[at], 2**62, 2**63 - 1, 2**63, U64 - choose.randrange(2000), choose.randrange(U64)))
+        yield marked(x) if choose.random() < 0.2 else x
+
+
+def total_cases():
+    """Totals about 2^64 - 1, with nothing that is refused before them."""
+    for a, sizes in (*rounded_once(), *summed()):
+        yield needing(a, sizes, [1, 0]), ARRAYS
+        yield needing(a, [0, 1], sizes), ARRAYS
+    for blases, tlases in sides():
+        yield needing(1, blases, tlases), ARRAYS
+        # 37 before 21, 38 and 39; and none of them with zero scratch
+        yield marked(needing(1, blases, tlases)), (0,) * 7
+        yield needing(1, blases, tlases), (0,) * 7
+    for x in (*largest_tables(), *random_totals()):
+        yield x, ARRAYS
 
 
 def all_cases():
@@ -177,6 +306,23 @@ def table_cases():
             yield t
 
 
+def agrees(x, answer):
+    """37's place and figures against a sum from the start for each place; and what is refused by it against totals that stop at 2^64 - 1."""
+    number, sort_of_21, size = answer[0], answer[3], answer[-1]
+    if number not in (0, 21, 37, 38, 39) or (number, sort_of_21) == (21, 1):
+        # refused before the totals are judged: there must be something to refuse
+        return x["geometries"] != []
+    blases, tlases = [x["blases"][r[0]][4] for r in x["entries"]], [x["tlases"][r[0]][2] for r in x["packages"]]
+    ups = [[rounded(n, x["alignment"]) for n in some] for some in (blases, tlases)]
+    stopped = max(functools.reduce(lambda total, n: min(U64, total + min(U64, n)), some, 0) for some in ups)
+    if stopped < U64:
+        return number != 37 and (number != 0 or size == max(map(sum, ups)))
+    sort, at = next((sort, i) for sort, some in enumerate(ups, 1) for i in range(len(some)) if sum(some[: i + 1]) >= U64)
+    return answer == (37, at, 0, sort, 0, 0, 0, 0)
+
+
+# of most outputs nothing is written
+@functools.cache
 def hashed(values, index):
     n = 256 ** BYTES[index]
     pattern = n // 255 * 165
@@ -192,18 +338,25 @@ def hashed(values, index):
 def main():
     folder = pathlib.Path(__file__).resolve().parent.parent / "crates/cases_build"
     folder.mkdir(exist_ok=True)
-    lines, seen = [], {}
-    cases = [(x["alignment"], tables(x), room) for x, room in all_cases()]
-    cases += [(256, t, ARRAYS) for t in table_cases()]
+    lines, seen, places = [], Counter(), Counter()
+    cases = [(x, x["alignment"], tables(x), room) for x, room in (*all_cases(), *total_cases())]
+    cases += [(None, 256, t, ARRAYS) for t in table_cases()]
     with open(folder / "stdin", "wb") as out:
-        for alignment, t, room in cases:
+        for x, alignment, t, room in cases:
             out.write(struct.pack("<16I", alignment, *(len(s) for s in t), *room) + b"".join(t))
             answer, outputs = build(alignment, t, room)
-            seen[answer[0]] = seen.get(answer[0], 0) + 1
+            if x and not agrees(x, answer):
+                raise SystemExit(f"the reading is at odds with itself: {answer} for {x}")
+            seen[answer[0]] += 1
+            if answer[0] == 37:
+                places[answer[3], answer[1]] += 1
             counts = [len(o or []) for o in outputs]
-            lines.append(" ".join(map(str, (*answer, *counts, *(hashed(o, i) for i, o in enumerate(outputs))))))
+            hashes = (hashed(None if o is None else tuple(o), i) for i, o in enumerate(outputs))
+            lines.append(" ".join(map(str, (*answer, *counts, *hashes))))
+    assert {(1, 0), (1, 63), (2, 0), (2, 31)} <= set(places), places
     (folder / "stdout").write_text("".join(line + "\n" for line in lines))
-    print(f"{len(cases)} builds; " + ", ".join(f"{n} of {k}" for k, n in sorted(seen.items())))
+    sorts = ", ".join(f"{sum(n for (of, _), n in places.items() if of == sort)} with {sort}" for sort in (1, 2))
+    print(f"{len(cases)} builds; " + ", ".join(f"{n} of {k}" for k, n in sorted(seen.items())) + f"; of 37 {sorts}")
 
 
 if __name__ == "__main__":

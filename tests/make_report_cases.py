@@ -3,14 +3,14 @@
 the lines of each, and then the lines with their refusal in words.
 
 Every number that a sheet can draw is drawn: 1 to 5 for the sheet, 6 and 10 to 38 for its build, 6, 21 and 40 to 44 for its actions. So is
-each sort of 21, and a refused action of each kind. No sheet draws 42 in a use: its lists start empty, and a Build lists numbered Blases.
+each sort of 21 and of 37, and a refused action of each kind. No sheet draws 42 in a use: its lists start empty, and a Build lists numbered Blases.
 """
 import pathlib
 import random
 import re
 import struct
 
-from make_build_cases import SECTIONS, base, changed, refusals, table_cases
+from make_build_cases import SECTIONS, base, changed, largest_tables, refusals, table_cases
 from make_read_cases import at_limit, put, record, sheet, worked
 from paper import U64
 from printed import explained, printed
@@ -54,6 +54,8 @@ def build_cases():
     for some in refusals():
         for x in some if isinstance(some, tuple) else (some,):
             yield of(x, ALL)
+    for x in largest_tables():
+        yield of(x, ALL)
     for t in table_cases():
         if all(len(s) % size == 0 for s, size in zip(t, (9, 28, 18, 22, 5, 44, 4, 56))):
             rows = [[s[i : i + size] for i in range(0, len(s), size)] for s, size in zip(t, (9, 28, 18, 22, 5, 44, 4, 56))]
@@ -143,6 +145,8 @@ WORDS = (
     "destroyed, entry, geometry, buffer",
     "destroyed, entry, Blas",
     "destroyed, package, Tlas",
+    "scratch 2^64 - 1, entry",
+    "scratch 2^64 - 1, package",
     "destroyed, use of a Tlas at action, Blas",
     "Blas without number, recorded build at action, Blas, Tlas",
     "id outside its table, use of a Tlas at action",
@@ -172,7 +176,7 @@ def main():
                 if word in ("sheet", "build", "submit"):
                     seen[word, int(number)] = seen.get((word, int(number)), 0) + 1
             texts.append(explained(case))
-            words.add(re.sub(r" \d+(?=,|$)", "", texts[-1].splitlines()[-1]))
+            words.add(re.sub(r"(?<=\w) \d+(?=,|$)", "", texts[-1].splitlines()[-1]))
     (folder / "stdout").write_text("".join(texts))
     due = {("sheet", n) for n in range(1, 6)} | {("build", n) for n in (0, 6, *range(10, 39))}
     due |= {("submit", n) for n in (0, 6, 21, 40, 41, 42, 43, 44)}

@@ -1,6 +1,6 @@
 #!/usr/bin/env python3
 """Writes crates/cases_words/stdin, refusals each as a u32 1 and seven u64s, and crates/cases_words/stdout, the words that printed.py has for
-them: every call and number up to a few past the last, with each sort and kind, positions, small numbers and the largest."""
+them: every call and number up to a few past the last, with each sort of 21, 22 and 37 and each kind, positions, small numbers and the largest."""
 import pathlib
 import random
 import struct
@@ -17,6 +17,9 @@ def cases():
     for f0 in (*range(6), U64):
         for number in (21, 22):
             yield 2, number, 7, 8, f0, 9, 10
+    for f0 in (*range(5), 2**32, U64):
+        for e0 in (0, 1, 31, 63, 64, 65535, 2**32, U64):
+            yield from ((2, 37, e0, e1, f0, 19, 20) for e1 in (0, 21))
     for kind in (*range(7), U64):
         for number in CALLS[3]:
             yield 3, number, 11, kind, 12, 13, 14

@@ -1,4 +1,5 @@
-"""A reading of the paper's "Building, in order" and "Submission" over lent tables, written apart from the definitions."""
+"""A reading of the paper's "Building, in order" and "Submission" over lent tables, and of the request for 37's place, written apart from the
+definitions."""
 import struct
 
 from reading import LIMITS, NONE, SIZES, record_fits
@@ -158,7 +159,7 @@ def check_geometry(d, g, boxes, blas_of, buffers, asked):
 
 
 def round_up(size, alignment):
-    return min(U64, (size + alignment - 1) // alignment * alignment)
+    return (size + alignment - 1) // alignment * alignment
 
 
 def build(alignment, tables, rooms):
@@ -213,7 +214,7 @@ def build(alignment, tables, rooms):
             except No as no:
                 return refused(no.args[0], (i, j), no.args[1:])
         offsets.append(total)
-        total = min(U64, total + round_up(blases[id]["scratch"], alignment))
+        total += round_up(blases[id]["scratch"], alignment)
 
     tlas_offsets, staging, bytes_, lists, tlas_total = [], [], b"", [id for id, _, _ in entries], 0
     for i, (id, ss) in enumerate(packages):
@@ -230,7 +231,7 @@ def build(alignment, tables, rooms):
         if len(listed) > tlases[id]["most"]:
             return refused(36, (i, 0), (len(listed), tlases[id]["most"]))
         tlas_offsets.append(tlas_total)
-        tlas_total = min(U64, tlas_total + round_up(tlases[id]["scratch"], alignment))
+        tlas_total += round_up(tlases[id]["scratch"], alignment)
         staging += [start, len(bytes_)]
         lists += [id, len(listed), *listed]
 
@@ -240,8 +241,11 @@ def build(alignment, tables, rooms):
         if rooms[4] < len(ranges):
             return refused(39)
         return (0,) * 8, [None, None, None, None, ranges, None, None]
-    if size == U64:
-        return refused(37)
+    # the running total with each one is where the next one starts, and with the last the whole
+    for sort, totals in ((1, [*offsets[1:], total]), (2, [*tlas_offsets[1:], tlas_total])):
+        for i, running in enumerate(totals):
+            if running >= U64:
+                return refused(37, (i, 0), (sort,))
     for i, (id, _) in enumerate(packages):
         if tlases[id]["destroyed"]:
             return refused(21, (i, 0), (3, id))

@@ -13,10 +13,11 @@ PLACES = {
     34: ("package", "slot"),
     35: ("package", "slot"),
     36: ("package",),
-    37: (),
     38: ("entry",),
     39: (),
 }
+# what 37's place is, by its first figure
+TOTALS = {1: "entry", 2: "package"}
 SORTS = {1: ("entry", "geometry", "buffer"), 2: ("entry", "Blas"), 3: ("package", "Tlas")}
 KINDS = {1: "recorded build", 2: "use of a Tlas", 3: "mark of a Blas", 4: "mark of a Tlas"}
 
@@ -47,6 +48,8 @@ def explanation(refusal):
     elif number in (21, 22):
         *where, sort = SORTS[1] if number == 22 else SORTS.get(figures[0], ("entry", "geometry", "resource"))
         items = [*zip(where, place), (sort, figures[1])]
+    elif number == 37:
+        items = [(TOTALS.get(figures[0], "entry or package"), place[0])]
     else:
         items = [*zip(PLACES.get(number, ("entry", "geometry")), place), *zip(names, figures)]
     return f"refused {number}: " + ", ".join([words, *(f"{name} {value}" for name, value in items)]) + "\n"

@@ -1,6 +1,7 @@
-/* The header against the library: records packed and unpacked, the room of a build, empty tables, a sheet written anew, opened groups,
- * words, a refused append, many instances in one call, how much stack each call uses, with the largest tables, sheet and groups, and how often
- * a build divides. Every answer is held against what it must be. OTHER_LIBRARY: one that stands in for ours may use more stack and divide. */
+/* The header against the library: records packed and unpacked, the room of a build, scratch that reaches 2^64 - 1, empty tables, a sheet
+ * written anew, opened groups, words, a refused append, many instances in one call, how much stack each call uses, with the largest tables,
+ * sheet and groups, and how often a build divides. Every answer is held against what it must be. OTHER_LIBRARY: one that stands in for ours
+ * may use more stack and divide. */
 #define _GNU_SOURCE
 #include <zakvind.h>
 
@@ -16,6 +17,14 @@ static void must(int holds, const char *what)
         printf("C edges: not as it must be: %s\n", what);
         exit(1);
     }
+}
+
+static int all(const uint8_t *bytes, size_t n, uint8_t value)
+{
+    while (n--)
+        if (bytes[n] != value)
+            return 0;
+    return 1;
 }
 
 /* ---- records: random bytes, unpacked and packed again, are the same */
@@ -194,6 +203,122 @@ static void room_fits(void)
     }
 }
 
+/* ---- scratch: entries without geometries and packages without slots, each of a Blas or a Tlas of its own with such a size. The ids run
+ * the other way, so that none is taken for the entry or the package. */
+
+static uint8_t sized_entries[sizeof entries], sized_packages[sizeof packages];
+static uint8_t sized_blases[ZAKVIND_MOST_ENTRIES * ZAKVIND_BLAS_BYTES], sized_tlases[ZAKVIND_MOST_PACKAGES * ZAKVIND_TLAS_BYTES];
+static uint64_t blas_sizes[ZAKVIND_MOST_ENTRIES], tlas_sizes[ZAKVIND_MOST_PACKAGES];
+
+/* so many entries and packages, with the alignment 1 */
+static void build_sized(size_t n, size_t m)
+{
+    for (uint16_t i = 0; i < ZAKVIND_MOST_ENTRIES; i++) {
+        const uint16_t id = (uint16_t)(ZAKVIND_MOST_ENTRIES - 1 - i);
+        const zakvind_entry e = {id, 0, 0};
+        zakvind_blas r = zakvind_blas_default();
+        r.flags = ZAKVIND_FLAGS_ALLOW_COMPACTION;
+        r.build_scratch_size = blas_sizes[i];
+        zakvind_pack_blas(sized_blases + id * ZAKVIND_BLAS_BYTES, &r);
+        zakvind_pack_entry(sized_entries + i * ZAKVIND_ENTRY_BYTES, &e);
+    }
+    for (uint16_t i = 0; i < ZAKVIND_MOST_PACKAGES; i++) {
+        const uint16_t id = (uint16_t)(ZAKVIND_MOST_PACKAGES - 1 - i);
+        const zakvind_package p = {id, 0};
+        zakvind_tlas r = zakvind_tlas_default();
+        r.build_scratch_size = tlas_sizes[i];
+        zakvind_pack_tlas(sized_tlases + id * ZAKVIND_TLAS_BYTES, &r);
+        zakvind_pack_package(sized_packages + i * ZAKVIND_PACKAGE_BYTES, &p);
+    }
+    uint8_t *outputs[] = {(uint8_t *)blas_offsets, (uint8_t *)tlas_offsets, (uint8_t *)staging_ranges, (uint8_t *)compactable,
+                          (uint8_t *)lists};
+    const size_t bytes[] = {sizeof blas_offsets, sizeof tlas_offsets, sizeof staging_ranges, sizeof compactable, sizeof lists};
+    for (size_t i = 0; i < sizeof bytes / sizeof *bytes; i++)
+        memset(outputs[i], 0x5a, bytes[i]);
+    built = zakvind_build(1, buffers, 0, sized_blases, sizeof sized_blases, declared, 0, sized_tlases, sizeof sized_tlases,
+                          sized_entries, n * ZAKVIND_ENTRY_BYTES, geometries, 0, sized_packages, m * ZAKVIND_PACKAGE_BYTES, slots, 0,
+                          blas_offsets, room.blas_offsets, tlas_offsets, room.tlas_offsets, staging_ranges, room.staging_ranges,
+                          instances, 0, init_ranges, 0, compactable, ZAKVIND_MOST_ENTRIES, lists, room.lists);
+    for (size_t i = 0; built.number && i < sizeof bytes / sizeof *bytes; i++)
+        must(all(outputs[i], bytes[i], 0x5a), "a refused build writes nothing");
+}
+
+/* Whether all entries and packages are refused by 37 at e0, an entry with f0 1, a package with 2. */
+static int out_of_memory(uint64_t e0, uint64_t f0)
+{
+    build_sized(ZAKVIND_MOST_ENTRIES, ZAKVIND_MOST_PACKAGES);
+    return built.number == ZAKVIND_OUT_OF_MEMORY && built.e0 == e0 && built.e1 == 0 && built.f0 == f0 && built.f1 == 0 && built.f2 == 0 &&
+           built.recorded == 0 && built.scratch_size == 0 && built.blas_offsets == 0 && built.lists == 0;
+}
+
+static int accepted(uint64_t scratch_size)
+{
+    build_sized(ZAKVIND_MOST_ENTRIES, ZAKVIND_MOST_PACKAGES);
+    return built.number == 0 && built.recorded == 1 && built.scratch_size == scratch_size && built.blas_offsets == ZAKVIND_MOST_ENTRIES;
+}
+
+static void put_sizes(uint64_t blas_size, uint64_t tlas_size)
+{
+    for (size_t i = 0; i < ZAKVIND_MOST_ENTRIES; i++)
+        blas_sizes[i] = blas_size;
+    for (size_t i = 0; i < ZAKVIND_MOST_PACKAGES; i++)
+        tlas_sizes[i] = tlas_size;
+}
+
+static void scratch(void)
+{
+    enum { LAST_ENTRY = ZAKVIND_MOST_ENTRIES - 1, LAST_PACKAGE = ZAKVIND_MOST_PACKAGES - 1 };
+    const uint64_t top = UINT64_MAX, half = (uint64_t)1 << 63, entry = 1, package = 2;
+    /* by each one alone, and by the last one of equal ones, whose sum would be 2^64 */
+    for (size_t i = 0; i < ZAKVIND_MOST_ENTRIES; i++) {
+        put_sizes(0, 0);
+        blas_sizes[i] = top;
+        must(out_of_memory(i, entry), "2^64 - 1 of one entry");
+    }
+    for (size_t i = 0; i < ZAKVIND_MOST_PACKAGES; i++) {
+        put_sizes(0, 0);
+        tlas_sizes[i] = top;
+        must(out_of_memory(i, package), "2^64 - 1 of one package");
+    }
+    put_sizes((uint64_t)1 << 58, 0);
+    must(out_of_memory(LAST_ENTRY, entry), "a sum that would be 2^64, at the last entry");
+    put_sizes(0, (uint64_t)1 << 59);
+    must(out_of_memory(LAST_PACKAGE, package), "a sum that would be 2^64, at the last package");
+    build_sized(LAST_ENTRY, LAST_PACKAGE);
+    must(built.number == 0 && built.scratch_size == (uint64_t)LAST_PACKAGE << 59, "and without it");
+
+    /* exactly 2^64 - 2, and one more, by the last one */
+    put_sizes(1, 1);
+    blas_sizes[0] = top - 1 - LAST_ENTRY;
+    must(accepted(top - 1) && blas_offsets[LAST_ENTRY] == top - 2, "2^64 - 2 of the entries");
+    tlas_sizes[0] = top - 1 - LAST_PACKAGE;
+    must(accepted(top - 1) && tlas_offsets[LAST_PACKAGE] == top - 2, "2^64 - 2 of both");
+    tlas_sizes[LAST_PACKAGE]++;
+    must(out_of_memory(LAST_PACKAGE, package), "2^64 - 1 at the last package");
+    blas_sizes[LAST_ENTRY]++;
+    must(out_of_memory(LAST_ENTRY, entry), "2^64 - 1 at the last entry, before a package");
+    tlas_sizes[0] = top;
+    must(out_of_memory(LAST_ENTRY, entry), "the last entry before the first package");
+    blas_sizes[0] = top - 1;
+    must(out_of_memory(1, entry), "the first of many entries");
+    blas_sizes[0] = top;
+    must(out_of_memory(0, entry), "the first entry");
+
+    /* sums that would be 0 are no build of nothing */
+    put_sizes(0, 0);
+    build_sized(ZAKVIND_MOST_ENTRIES, ZAKVIND_MOST_PACKAGES);
+    must(built.number == 0 && built.recorded == 0 && built.scratch_size == 0, "no scratch: nothing recorded");
+    blas_sizes[3] = blas_sizes[40] = half;
+    must(out_of_memory(40, entry), "2^63 of two entries");
+    put_sizes(0, 0);
+    tlas_sizes[3] = tlas_sizes[20] = half;
+    must(out_of_memory(20, package), "2^63 of two packages");
+    /* the larger total counts, not their sum */
+    put_sizes(0, 0);
+    blas_sizes[5] = tlas_sizes[7] = half;
+    must(accepted(half), "2^63 of an entry and of a package");
+}
+
 /* ---- nothing at all, lent by the idiom */
 
 static void nothing(void)
@@ -224,14 +349,6 @@ static void nothing(void)
 /* ---- a sheet written anew */
 
 static uint8_t anew[ZAKVIND_LONGEST_SHEET + 8], again[ZAKVIND_LONGEST_SHEET];
-
-static int all(const uint8_t *bytes, size_t n, uint8_t value)
-{
-    while (n--)
-        if (bytes[n] != value)
-            return 0;
-    return 1;
-}
 
 static void written(void)
 {
@@ -576,6 +693,22 @@ static void words(void)
         told = zakvind_words(ZAKVIND_CALL_APPEND_MANY, of_many[i].number, 0, of_many[i].position, 0, 0, 0, text, sizeof text);
         must(told.written == n && memcmp(text, of_many[i].line, n) == 0, "the words of many instances");
     }
+    static const struct {
+        uint64_t e0, f0;
+        const char *line;
+    } of_scratch[] = {
+        {63, 1, "refused 37: scratch 2^64 - 1, entry 63\n"},
+        {0, 1, "refused 37: scratch 2^64 - 1, entry 0\n"},
+        {31, 2, "refused 37: scratch 2^64 - 1, package 31\n"},
+        {7, 0, "refused 37: scratch 2^64 - 1, entry or package 7\n"},
+        {7, 3, "refused 37: scratch 2^64 - 1, entry or package 7\n"},
+        {UINT64_MAX, UINT64_MAX, "refused 37: scratch 2^64 - 1, entry or package 18446744073709551615\n"},
+    };
+    for (size_t i = 0; i < sizeof of_scratch / sizeof *of_scratch; i++) {
+        const size_t n = strlen(of_scratch[i].line);
+        told = zakvind_words(ZAKVIND_CALL_BUILD, ZAKVIND_OUT_OF_MEMORY, of_scratch[i].e0, 0, of_scratch[i].f0, 0, 0, text, sizeof text);
+        must(told.written == n && memcmp(text, of_scratch[i].line, n) == 0, "the words of an entry or a package");
+    }
     for (uint64_t call = 0; call < 9; call++)
         for (uint64_t number = 0; number < 50; number++)
             for (uint64_t e = 0; e < 6; e++) {
@@ -778,6 +911,7 @@ int main(void)
     fill();
     make_sheet();
     room_fits();
+    scratch();
     nothing();
     written();
     opened_groups();
@@ -787,6 +921,6 @@ int main(void)
     words();
     stacks();
     divisions();
-    puts("C: records, room, empty tables, written sheets, opened groups, appends and stack are as is said");
+    puts("C: records, room, scratch, empty tables, written sheets, opened groups, appends and stack are as is said");
     return 0;
 }

@@ -422,6 +422,7 @@ fn refusal_of(err: E, r: &Rec, input: &Input) -> Refused {
         E::TlasInvalidCustomIndex(_) => refused(34, (package, slot(r.instances_begun)), [0; 3]),
         E::TlasDependentMissingVertexReturn(_, _) => refused(35, (package, slot(r.instances_begun - 1)), [0; 3]),
         E::TlasInstanceCountExceeded(_, n, most) => refused(36, (package, 0), [n.into(), most.into(), 0]),
+        // the Rust has no figures here: the place is the paper's, and is not this file's to give
         E::Device(DeviceError::OutOfMemory) => refused(37, (0, 0), [0; 3]),
         E::CompactedBlas(_) => refused(38, (r.blas_raw_calls - 1, 0), [0; 3]),
         E::InvalidResource(_) | E::EncoderState(_) | E::MissingFeatures(_) | E::Device(_) | E::UnalignedIndexBufferOffset(_) => {

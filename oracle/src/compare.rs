@@ -57,7 +57,7 @@ fn print_tally(tally: &Tally) {
             println!("  {call:<7} {n:>2} {:>10} {:>10} {:>10}", marks[0], marks[1], marks[2]);
         }
     }
-    println!("and of accepted ones, by part: the Rust's own, a stand-in's, the paper's");
+    println!("and of accepted ones, of 37 and of 39, by part: the Rust's own, a stand-in's, the paper's");
     let mut names: Vec<&str> = tally.parts.keys().map(|k| k.0).collect();
     names.dedup();
     for name in names {

@@ -75,6 +75,26 @@ fn totals(packages: bool) -> Vec<u8> {
     })
 }
 
+/// Two entries and two packages with these scratch sizes.
+fn broken(blases: [u64; 2], tlases: [u64; 2]) -> Vec<u8> {
+    with(|r| {
+        r.push(BLASES, &[0, 0, 0, 0, blases[1], 0, 0]);
+        r.set(BLASES, 0, blas::SCRATCH, blases[0]);
+        r.push(ENTRIES, &[1, 0, 0]);
+        r.push(TLASES, &[0, 0, tlases[1], 1, 0]);
+        r.set(TLASES, 0, tlas::SCRATCH, tlases[0]);
+        r.push(PACKAGES, &[1, 0]);
+    })
+}
+
+/// A scratch size at alignment 1.
+fn unrounded(size: u64) -> Vec<u8> {
+    with(|r| {
+        r.alignment = 1;
+        r.set(BLASES, 0, blas::SCRATCH, size);
+    })
+}
+
 pub fn sheets() -> Vec<(&'static str, Vec<u8>, &'static str)> {
     let passes = "build 0 0 0 0 0 0\n";
     let set = |section, field, value| with(|r| r.set(section, 0, field, value));
@@ -102,7 +122,12 @@ pub fn sheets() -> Vec<(&'static str, Vec<u8>, &'static str)> {
             "build 0 0 0 0 0 0\nscratch 1024\nblas 0 0\nblas 1 512\ntlas 0 0 0 64\nsubmit 0 0 0 0\nnext 1\n",
         ),
         ("6: Blases alone", totals(false), "build 0 0 0 0 0 0\nscratch 768\nblas 0 0\nblas 1 512\nsubmit 0 0 0 0\nnext 1\n"),
-        ("37 by rounding", set(BLASES, blas::SCRATCH, TOP), "build 37 0 0 0 0 0\n"),
+        ("37 by rounding", set(BLASES, blas::SCRATCH, TOP), "build 37 0 0 1 0 0\n"),
+        ("37 of a later entry, by the sum", broken([1 << 63, 1 << 63], [100, 100]), "build 37 1 0 1 0 0\n"),
+        ("37 of a package", broken([300, 300], [100, TOP - 255]), "build 37 1 0 2 0 0\n"),
+        ("37 of an entry before that of a package", broken([300, TOP], [TOP, TOP]), "build 37 1 0 1 0 0\n"),
+        ("37 where 2^64 - 1 is reached", unrounded(TOP), "build 37 0 0 1 0 0\n"),
+        ("one less passes", unrounded(TOP - 1), "build 0 0 0 0 0 0\nscratch 18446744073709551614\n"),
         (
             "zero scratch returns first",
             with(|r| {

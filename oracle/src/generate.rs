@@ -283,7 +283,7 @@ fn geometry_for(r: &mut Rng, m: &Made, kind: usize) -> usize {
 }
 
 /// How many kinds of fault there are.
-const FAULTS: usize = 52;
+const FAULTS: usize = 53;
 
 /// One fault, where its place can be found; for each refusal of a build at least one kind of them.
 fn fault(r: &mut Rng, m: &mut Made, kind: usize) {
@@ -346,7 +346,15 @@ fn fault(r: &mut Rng, m: &mut Made, kind: usize) {
         15 => raw.set(GEOMETRIES, g, geometry::TRANSFORM_BUFFER, NONE),
         16 if buffer_id < raw.count(BUFFERS) => {
             let marks = r.pick(&[0, 2, 3]);
-            raw.set(BUFFERS, buffer_id, buffer::MARKS, marks);
+            if r.chance(50) && raw.count(BUFFERS) < LIMITS[BUFFERS] {
+                // a copy that nothing else uses, or the check of another use would come first
+                let mut copy = raw.record(BUFFERS, buffer_id).to_vec();
+                copy[buffer::MARKS] = marks;
+                raw.set(GEOMETRIES, g, field, raw.count(BUFFERS) as u64);
+                raw.push(BUFFERS, &copy);
+            } else {
+                raw.set(BUFFERS, buffer_id, buffer::MARKS, marks);
+            }
         }
         17 if buffer_id < raw.count(BUFFERS) => {
             let less = r.pick(&[1, 1, 2, 47, 48, 1000]);
@@ -523,18 +531,111 @@ fn table_fault(r: &mut Rng, raw: &mut Raw, kind: usize, focus: Option<usize>) {
                 raw.set(TLASES, i, tlas::SCRATCH, 0);
             }
         }
-        _ => {
+        51 => {
             raw.alignment = r.pick(&[0, 1, 7, TOP32]);
             raw.counter = r.pick(&[0, 0, TOP]);
         }
+        _ => totals(r, raw),
+    }
+}
+
+/// The entries or the packages, whose sizes are added up: the section with the sizes and the sizes' field, and what the list draws.
+struct Summed {
+    list: usize,
+    sized: usize,
+    size: usize,
+    drawn: usize,
+}
+
+const SUMMED: [Summed; 2] = [
+    Summed { list: ENTRIES, sized: BLASES, size: blas::SCRATCH, drawn: GEOMETRIES },
+    Summed { list: PACKAGES, sized: TLASES, size: tlas::SCRATCH, drawn: SLOTS },
+];
+
+/// A total of 2^64 - 2, 2^64 - 1 or 2^64: of the entries, of the packages, or of both. Mostly at an alignment that divides it, since totals
+/// are multiples of the alignment.
+fn totals(r: &mut Rng, raw: &mut Raw) {
+    let (below, top) = (u128::from(TOP) - 1, u128::from(TOP));
+    let any = |r: &mut Rng| Some(r.pick(&[below, top, top + 1]));
+    let ends = match r.below(4) {
+        0 => [any(r), None],
+        1 => [None, any(r)],
+        // a package's, though the entries' are as near as they can be
+        2 => [Some(below), any(r)],
+        _ => [any(r), any(r)],
+    };
+    if r.chance(80) {
+        let divided = ends[r.index(2)].or(ends[0]).unwrap_or(top);
+        let power = 1 << r.below(32);
+        raw.alignment = match divided {
+            d if d < top => r.pick(&[1, 1, 2, 7, 14, 49, 73, 127, 337, 92737]),
+            d if d == top => r.pick(&[1, 1, 3, 5, 15, 17, 255, 257, 65535, 65537, TOP32]),
+            _ => r.pick(&[1, 2, 256, power, power]),
+        };
+    }
+    for (s, end) in SUMMED.iter().zip(ends) {
+        if let Some(end) = end {
+            total(r, raw, s, end);
+        }
+    }
+}
+
+/// Lengthens a list, or makes it anew, so that its running total comes to `end`, or as near as it can, at one that is picked: the first,
+/// a middle or the last one of those that are new. Each has a record of its own, so that its size is free.
+fn total(r: &mut Rng, raw: &mut Raw, s: &Summed, end: u128) {
+    if r.chance(60) {
+        raw.sections[s.list].clear();
+        raw.sections[s.drawn].clear();
+    }
+    let left = |raw: &Raw, section: usize| LIMITS[section].saturating_sub(raw.count(section));
+    let n = r.pick(&[1, 2, 3, 3, 4, 6]).min(left(raw, s.list)).min(left(raw, s.sized));
+    if n == 0 {
+        return;
+    }
+    let add = |r: &mut Rng, raw: &mut Raw, size: u64| {
+        let id = raw.count(s.sized) as u64;
+        let mut record = if s.sized == BLASES { blas_record(r, true).to_vec() } else { tlas_record(r, true).to_vec() };
+        record[s.size] = size;
+        raw.push(s.sized, &record);
+        let listed = if s.list == ENTRIES { vec![id, r.below(2), 0] } else { vec![id, 0] };
+        raw.push(s.list, &listed);
+    };
+    if r.chance(20) {
+        // one size, as often as it is listed
+        add(r, raw, (end / n as u128).min(TOP.into()) as u64);
+        for _ in 1..n {
+            let again = raw.record(s.list, raw.count(s.list) - 1).to_vec();
+            raw.push(s.list, &again);
+        }
+        return;
+    }
+    let alignment = u128::from(raw.alignment.max(1));
+    let (reached, zeros) = (r.pick(&[0, n / 2, n - 1]), r.chance(30));
+    for i in 0..n {
+        let ids: Vec<usize> = (0..raw.count(s.list)).map(|k| raw.get(s.list, k, 0) as usize).collect();
+        let sizes = ids.iter().filter(|&&id| id < raw.count(s.sized)).map(|&id| raw.get(s.sized, id, s.size));
+        let left = end.saturating_sub(sizes.map(|size| u128::from(size).next_multiple_of(alignment)).sum());
+        let size = if i == reached {
+            let multiple = if r.chance(50) { left / alignment * alignment } else { left.next_multiple_of(alignment) };
+            // rounded to it
+            multiple.saturating_sub(r.pick(&[0, 0, 1, alignment - 1]).min(alignment - 1))
+        } else if i > reached {
+            r.pick(&[0, 0, 1, 300, TOP.into()])
+        } else if zeros {
+            0
+        } else {
+            let any = u128::from(r.u64()).min(left);
+            r.pick(&[0, 1, alignment, left / 2, left / 2, any])
+        };
+        add(r, raw, size.min(TOP.into()) as u64);
     }
 }
 
 /// Kinds of fault in the order in which a build would find them. Those of a buffer stand three times, for the data, the
 /// index and the transform buffer.
-const IN_ORDER: [usize; 48] = [
+const IN_ORDER: [usize; 49] = [
     51, 45, 47, 48, 46, 29, 42, 43, 0, 1, 2, 3, 4, 5, 6, 7, 8, 10, 11, 12, 13, 14, 16, 17, 20, 18, 16, 21, 22, 23, 24, 17, 25, 19,
-    16, 26, 17, 15, 27, 9, 28, 33, 34, 36, 37, 41, 40, 39,
+    16, 26, 17, 15, 27, 9, 28, 33, 34, 36, 37, 52, 41, 40, 39,
 ];
 
 /// Faults that stand next to each other in that order, on the same records.

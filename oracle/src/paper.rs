@@ -1,5 +1,5 @@
 //! What the paper judges and the Rust has not: the sheet (1 to 5), and a library call's tables. Field by field, with no
-//! allocation, so that it is also the Rust reader that times are taken of.
+//! allocation, so that it is also the Rust reader that times are taken of. At the end the place of a 37, by its request.
 use published::input::{Blas, Buffer, Declared, Entry, Geometry, Input, Package, Slot, Tlas};
 
 use crate::layout::{LIMITS, SIZES};
@@ -385,4 +385,35 @@ pub fn input(alignment: u32, counter: u64, tables: [&[u8]; 8]) -> Input {
         entries,
         packages,
     }
+}
+
+// ---- the place of a 37 -------------------------------------------------------------------------------------------------
+
+/// 37's E and figures.
+pub type ScratchPlace = ((u64, u64), [u64; 3]);
+
+/// The first of the sizes at which the running total, each size rounded up to the alignment, "reaches 2^64 - 1 or would pass it".
+fn first_over(alignment: u32, sizes: impl Iterator<Item = u64>) -> Option<u64> {
+    // whole numbers, not the Rust's totals, which stop at 2^64 - 1: at most 64 sizes are far from the end of a u128
+    let (alignment, mut total) = (u128::from(alignment), 0u128);
+    for (i, size) in (0..).zip(sizes) {
+        total += u128::from(size).div_ceil(alignment) * alignment;
+        if total >= u128::from(u64::MAX) {
+            return Some(i);
+        }
+    }
+    None
+}
+
+/// Where the scratch total breaks. The Rust has no figures there: it gives a bare 37, so its number is the Rust's and its place is
+/// read here, from the request's words alone: "the first entry at which the running Blas total reaches 2^64 - 1 or would pass it; if
+/// the Blas total stays below, the first such package", "with the entry or package, 0, and a first figure of 1 for an entry or 2 for a
+/// package". None where both totals stay below. Ids must be inside their tables.
+pub fn scratch_place(input: &Input) -> Option<ScratchPlace> {
+    let blas_sizes = input.entries.iter().map(|e| input.blases[usize::from(e.blas)].scratch);
+    let tlas_sizes = input.packages.iter().map(|p| input.tlases[usize::from(p.tlas)].scratch);
+    if let Some(entry) = first_over(input.alignment, blas_sizes) {
+        return Some(((entry, 0), [1, 0, 0]));
+    }
+    first_over(input.alignment, tlas_sizes).map(|package| ((package, 0), [2, 0, 0]))
 }

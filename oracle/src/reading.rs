@@ -10,7 +10,7 @@ pub struct Reading {
 }
 
 /// How many faults there are, from 1 on; those of opened groups follow, then those of many appended instances.
-pub const FAULTS: u32 = 64;
+pub const FAULTS: u32 = 71;
 
 const TOP: u64 = u64::MAX;
 const TOP32: u64 = u32::MAX as u64;
@@ -196,6 +196,11 @@ fn times(a: u64, b: u64) -> u64 {
     a.saturating_mul(b)
 }
 
+/// Both totals as one, which no answer is by; two faults are.
+fn together(a: Option<u64>, b: Option<u64>) -> Option<u64> {
+    a?.checked_add(b?)
+}
+
 struct Tables<'a> {
     alignment: u64,
     t: [&'a [u8]; 8],
@@ -222,22 +227,48 @@ impl<'a> Tables<'a> {
 }
 
 impl Reading {
-    /// By division, whatever the alignment; the faults are those of a mask.
-    fn rounded(&self, size: u64, alignment: u64) -> u64 {
+    /// By division, whatever the alignment, None where it passes 2^64 - 1; the faults are those of a mask, and of a stop one too early.
+    fn rounded(&self, size: u64, alignment: u64) -> Option<u64> {
         let mask = alignment - 1;
         let power = alignment.is_power_of_two();
         if self.is(61) || self.is(62) && alignment.count_ones() == 2 {
-            return size.saturating_add(mask) & !mask;
+            return Some(size.saturating_add(mask) & !mask);
         }
         if self.is(63) && power {
-            return size.saturating_add(mask) & !(mask >> 1);
+            return Some(size.saturating_add(mask) & !(mask >> 1));
         }
         if self.is(64) && power {
-            return size.wrapping_add(mask) & !mask;
+            return Some(size.wrapping_add(mask) & !mask);
         }
-        let up = size.div_ceil(alignment) as u128 * alignment as u128;
-        let stop = if self.is(12) { TOP - 1 } else { TOP };
-        up.min(stop.into()) as u64
+        let up = size.div_ceil(alignment).checked_mul(alignment);
+        if self.is(12) {
+            return Some(up.unwrap_or(TOP).min(TOP - 1));
+        }
+        up
+    }
+
+    /// A total and one size more; None from where it has passed 2^64 - 1 on.
+    fn added(&self, total: Option<u64>, size: u64, alignment: u64) -> Option<u64> {
+        total?.checked_add(self.rounded(size, alignment)?)
+    }
+
+    /// "reaches 2^64 - 1 or would pass it"
+    fn over(&self, total: Option<u64>) -> bool {
+        total.is_none() || total == Some(TOP) && !self.is(68)
+    }
+
+    /// 37, of the entries and the packages at which their total is over.
+    fn broken(&self, entries: &[u64], packages: &[u64]) -> No {
+        let one = |over: &[u64], last: bool| if last { over.last().copied() } else { over.first().copied() };
+        let (entry, package) = (one(entries, self.is(65)), one(packages, self.is(70)));
+        let (at, figure) = match (entry, package) {
+            (Some(_), Some(p)) if self.is(66) => (p, 2),
+            (Some(i), _) => (i, 1),
+            (None, Some(p)) => (p, if self.is(67) { 1 } else { 2 }),
+            // only by fault 32, whose size is neither total
+            (None, None) => (0, 0),
+        };
+        (37, [if self.is(69) { 0 } else { at }, 0], [figure, 0, 0])
     }
 
     fn ids(&self, x: &Tables) -> Result<(), No> {
@@ -414,22 +445,29 @@ impl Reading {
     /// The plan; `false` where nothing is recorded.
     fn plan(&self, x: &Tables) -> Result<(Plan, bool), No> {
         let mut plan = Plan::default();
-        let (mut g, mut s, mut total, mut tlas_total) = (0, 0, 0u64, 0u64);
+        let (mut g, mut s, mut total, mut tlas_total) = (0, 0, Some(0), Some(0));
+        let (mut entries_over, mut packages_over) = (Vec::new(), Vec::new());
         for i in 0..x.count(4) {
             let e = x.record(4, i);
             for j in 0..e.get(entry::COUNT) {
                 self.check(x, &e, j, &x.record(5, g + j), &mut plan.init_ranges).map_err(|(n, f)| (n, [i, j], f))?;
             }
             g += e.get(entry::COUNT);
-            plan.blas_offsets.push(total);
-            total = total.saturating_add(self.rounded(x.record(1, e.get(entry::BLAS)).get(blas::SCRATCH), x.alignment));
+            plan.blas_offsets.push(total.unwrap_or(TOP));
+            total = self.added(total, x.record(1, e.get(entry::BLAS)).get(blas::SCRATCH), x.alignment);
+            if self.over(total) {
+                entries_over.push(i);
+            }
             plan.lists.push(e.get(entry::BLAS) as u16);
         }
         for p in 0..x.count(6) {
             let r = x.record(6, p);
             let t = x.record(3, r.get(package::TLAS));
-            plan.tlas_offsets.push(tlas_total);
-            tlas_total = tlas_total.saturating_add(self.rounded(t.get(tlas::SCRATCH), x.alignment));
+            plan.tlas_offsets.push(tlas_total.unwrap_or(TOP));
+            tlas_total = self.added(tlas_total, t.get(tlas::SCRATCH), x.alignment);
+            if self.over(if self.is(71) { together(total, tlas_total) } else { tlas_total }) {
+                packages_over.push(p);
+            }
             let start = plan.instances.len() as u64;
             let mut list = Vec::new();
             for j in 0..r.get(package::COUNT) {
@@ -453,13 +491,15 @@ impl Reading {
             plan.lists.extend([r.get(package::TLAS) as u16, list.len() as u16]);
             plan.lists.extend(list);
         }
-        plan.scratch_size = if self.is(32) { total.saturating_add(tlas_total) } else { total.max(tlas_total) };
-        if plan.scratch_size == 0 && !self.is(33) {
+        let larger = total.zip(tlas_total).map(|(b, t)| b.max(t));
+        let size = if self.is(32) { together(total, tlas_total) } else { larger };
+        if size == Some(0) && !self.is(33) {
             return Ok((plan, false));
         }
-        if plan.scratch_size == TOP {
-            return Err((37, [0; 2], [0; 3]));
+        if self.over(size) {
+            return Err(self.broken(&entries_over, &packages_over));
         }
+        plan.scratch_size = size.unwrap_or(TOP);
         for p in 0..x.count(6) {
             let t = x.record(6, p).get(package::TLAS);
             if x.record(3, t).get(tlas::DESTROYED) == 1 {

@@ -243,6 +243,58 @@ fn limits(list: &mut List) {
     }
 }
 
+/// Entries and packages with these scratch sizes, and with nothing else.
+fn sized(alignment: u64, blases: &[u64], tlases: &[u64]) -> Raw {
+    let mut raw = Raw { version: 1, alignment, counter: 1, ..Raw::default() };
+    for (id, &size) in (0..).zip(blases) {
+        raw.push(BLASES, &[0, 0, 0, 0, size, 0, 0]);
+        raw.push(ENTRIES, &[id, 0, 0]);
+    }
+    for (id, &size) in (0..).zip(tlases) {
+        raw.push(TLASES, &[0, 0, size, 1, 0]);
+        raw.push(PACKAGES, &[id, 0]);
+    }
+    raw
+}
+
+/// Scratch totals of 2^64 - 2, 2^64 - 1 and 2^64, of three entries, three packages or both, at the first, the second or the last: after
+/// zeros, by a sum, and by a rounding at an alignment that divides the total; then at the last of as many as there may be.
+fn totals(list: &mut List) {
+    let (below, top) = (u128::from(TOP) - 1, u128::from(TOP));
+    let comes_to = |end: u128, alignment: u64, before: u64, at: usize| -> [u64; 3] {
+        let rest = end - at as u128 * u128::from(before.next_multiple_of(alignment)) - u128::from(alignment - 1);
+        let size = rest.min(top) as u64;
+        std::array::from_fn(|i| match i {
+            _ if i < at => before,
+            _ if i == at => size,
+            _ => 1,
+        })
+    };
+    for (end, divisor) in [(below, 2), (top, 3), (top + 1, 256)] {
+        for (alignment, before) in [(1, 0), (1, 1), (divisor, 1)] {
+            for at in 0..3 {
+                let sizes = comes_to(end, alignment, before, at);
+                let others = comes_to(end, alignment, before, (at + 1) % 3);
+                // entries whose whole total stays below by as little as it can
+                let unit = u128::from(alignment);
+                let near = comes_to(below / unit * unit - 2 * unit, alignment, before, 0);
+                for (blases, tlases) in [(sizes, [1; 3]), ([1; 3], sizes), (sizes, others), (near, sizes)] {
+                    list.take(sized(alignment, &blases, &tlases).sheet());
+                }
+            }
+        }
+    }
+    // a power of two as often as there may be comes to 2^64; the last may be less
+    for less in [0, 1, 2] {
+        let mut entries = sized(1, &[1 << 58, (1 << 58) - less], &[]);
+        (2..LIMITS[ENTRIES]).for_each(|_| entries.insert(ENTRIES, 0, &[0, 0, 0]));
+        list.take(entries.sheet());
+        let mut packages = sized(1, &[], &[1 << 59, (1 << 59) - less]);
+        (2..LIMITS[PACKAGES]).for_each(|_| packages.insert(PACKAGES, 0, &[0, 0]));
+        list.take(packages.sheet());
+    }
+}
+
 /// What a text says, without its larger numbers.
 pub fn shape(text: &str) -> Vec<String> {
     let kept = |l: &&str| l.starts_with("sheet") || l.starts_with("build") || l.starts_with("submit");
@@ -272,6 +324,7 @@ fn sheets(rust: &mut RustSide) -> Vec<Vec<u8>> {
     pairs(&mut list, rust, &base);
     actions(&mut list, rust);
     limits(&mut list);
+    totals(&mut list);
     // random ones that answer in a way that isn't there yet, short ones only
     let mut seen: BTreeSet<Vec<String>> = list.sheets.iter().map(|s| shape(rust.text(s))).collect();
     for index in 0..60_000 {

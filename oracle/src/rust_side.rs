@@ -2,7 +2,7 @@
 use std::fmt::Write as _;
 use std::panic::{catch_unwind, AssertUnwindSafe};
 
-use published::drive::{self, Act, Built, Mark, Recorded, Submission, World};
+use published::drive::{self, Act, Built, Mark, Recorded, Refused, Submission, World};
 use published::input::{Input, Package};
 
 use crate::layout::SIZES;
@@ -237,6 +237,32 @@ fn assert_as_in_the_rust(w: &World, lent: &Lent) {
     }
 }
 
+// ---- building ---------------------------------------------------------------------------------------------------------
+
+/// Whether the Rust came to its test of the scratch size: it accepted, or gave 37 or what stands after it, 38 and destroyed Blases
+/// and Tlases.
+fn scratch_tested(answer: &Result<Built, Refused>) -> bool {
+    match answer {
+        Ok(_) => true,
+        Err(r) => matches!(r.number, 37 | 38) || r.number == 21 && r.f[0] != 1,
+    }
+}
+
+/// A build by the Rust. That it is a 37 the Rust decides; its E and first figure, which the Rust has not, are the paper's. Both must say
+/// whether there is one: where only one does, it stops here and is told as a difference, and no place is made up.
+fn build(w: &World, input: &Input) -> Result<Built, Refused> {
+    let mut answer = drive::build(w, input);
+    if scratch_tested(&answer) {
+        let by_the_rust = matches!(&answer, Err(r) if r.number == 37);
+        let place = paper::scratch_place(input);
+        assert_eq!(by_the_rust, place.is_some(), "whether it is a 37: the Rust, and the reading of its place, {place:?}");
+        if let (Err(r), Some(place)) = (&mut answer, place) {
+            (r.e, r.f) = place;
+        }
+    }
+    answer
+}
+
 // ---- instances --------------------------------------------------------------------------------------------------------
 
 /// The 64 bytes of an instance, whatever the room.
@@ -252,7 +278,7 @@ fn instance_alone(tlases: &[u8], blases: &[u8], tlas: u16, instance: &[u8; 55]) 
     slot.blas = 0;
     let packages = vec![Package { tlas: 0, slots: vec![Some(slot)] }];
     let input = Input { alignment: 1, counter: 1, blases: vec![b], tlases: vec![t], packages, ..Input::default() };
-    let built = drive::build(&World::new(&input), &input).map_err(|r| (r.number, r.mark))?;
+    let built = build(&World::new(&input), &input).map_err(|r| (r.number, r.mark))?;
     Ok(built.recorded.expect("scratch 1").staging)
 }
 
@@ -298,10 +324,10 @@ impl RustSide {
         self.tally.answer("sheet", 0, Mark::Paper);
         let input = paper::input(p.alignment, p.counter, p.tables(sheet));
         let w = World::new(&input);
-        let built = match drive::build(&w, &input) {
+        let built = match build(&w, &input) {
             Ok(b) => b,
             Err(r) => {
-                self.tally.answer("build", r.number, r.mark);
+                self.tally_refused(r.number, r.mark);
                 let _ = writeln!(out, "build {} {} {} {} {} {}", r.number, r.e.0, r.e.1, r.f[0], r.f[1], r.f[2]);
                 return out;
             }
@@ -330,6 +356,14 @@ impl RustSide {
         out
     }
 
+    /// A refused build; of a 37 the place is counted apart, since it isn't the Rust's.
+    fn tally_refused(&mut self, number: u64, mark: Mark) {
+        self.tally.answer("build", number, mark);
+        if number == 37 {
+            self.tally.part("37: entry or package", Mark::Paper, 1);
+        }
+    }
+
     fn tally_plan(&mut self, built: &Built) {
         self.tally.part("initialisation ranges, as asked for", Mark::Rust, built.init_ranges.len());
         let Some(r) = &built.recorded else { return };
@@ -352,7 +386,7 @@ impl RustSide {
     ) -> Result<[u64; 15], (u64, (u64, u64), [u64; 3], Mark)> {
         paper::judge_tables(alignment, tables).map_err(|(number, e)| (number, e, [0; 3], Mark::Paper))?;
         let input = paper::input(alignment, 1, tables);
-        let built = drive::build(&World::new(&input), &input).map_err(|r| (r.number, r.e, r.f, r.mark))?;
+        let built = build(&World::new(&input), &input).map_err(|r| (r.number, r.e, r.f, r.mark))?;
         let init: Vec<u64> = built.init_ranges.iter().flat_map(|&(b, s, e)| [b.into(), s, e]).collect();
         let short = (39, (0, 0), [0; 3], Mark::Paper);
         let mut answer = [0; 15];
@@ -486,7 +520,7 @@ impl Side for RustSide {
                 answer
             }
             Err((number, e, f, mark)) => {
-                self.tally.answer("build", number, mark);
+                self.tally_refused(number, mark);
                 let mut answer = [0; 15];
                 answer[..6].copy_from_slice(&[number, e.0, e.1, f[0], f[1], f[2]]);
                 answer

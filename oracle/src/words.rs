@@ -51,10 +51,13 @@ fn item((word, value): (&&str, &u64)) -> String {
     format!(", {word} {value}")
 }
 
-/// What a build's E is.
+/// What a build's E is; `sort` is the first figure, which of 21 and 37 says what E counts.
 fn place(number: u64, sort: u64) -> &'static [&'static str] {
     match (number, sort) {
-        (37 | 39, _) => &[],
+        (39, _) => &[],
+        (37, 1) => &["entry"],
+        (37, 2) => &["package"],
+        (37, _) => &["entry or package"],
         (4 | 5, _) => &["section", "record"],
         (6, _) => &["entry or package", "geometry or slot"],
         (34 | 35, _) => &["package", "slot"],

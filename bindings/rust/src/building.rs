@@ -244,6 +244,15 @@ pub enum Resource {
     Tlas(TlasId),
 }
 
+/// Whose running total of scratch reaches 2^64 - 1 or would pass it; [`BuildRefused::e`] has the first at which it does.
+#[derive(Clone, Copy, Debug, PartialEq, Eq)]
+pub enum RunningTotal {
+    /// that of the entries' Blases: `e[0]` is an entry
+    Entries,
+    /// that of the packages' Tlases, where that of the entries stays below: `e[0]` is a package
+    Packages,
+}
+
 /// Why a build is refused, with its figures.
 #[derive(Clone, Copy, Debug, PartialEq, Eq)]
 #[non_exhaustive]
@@ -374,12 +383,12 @@ pub enum BuildAccelerationStructureError {
         most: u32,
     },
     /// 37: scratch 2^64 - 1
-    OutOfMemory,
+    OutOfMemory(RunningTotal),
     /// 38: compacted Blas
     CompactedBlas,
     /// 39: lent output too short
     OutputTooShort,
-    /// a number that this binding doesn't know
+    /// a number that this binding doesn't know, or figures that it has no name for
     Other {
         /// the number
         number: u64,
@@ -434,7 +443,11 @@ impl BuildAccelerationStructureError {
             34 => E::TlasInvalidCustomIndex,
             35 => E::TlasDependentMissingVertexReturn,
             36 => counts().map(|(count, most)| E::TlasInstanceCountExceeded { count, most })?,
-            37 => E::OutOfMemory,
+            37 => E::OutOfMemory(match f0 {
+                1 => RunningTotal::Entries,
+                2 => RunningTotal::Packages,
+                _ => return None,
+            }),
             38 => E::CompactedBlas,
             39 => E::OutputTooShort,
             _ => return None,
@@ -450,7 +463,8 @@ pub struct BuildRefused {
     pub number: u64,
     /// the same, with its figures
     pub error: BuildAccelerationStructureError,
-    /// entry and geometry, or package and slot; for `TooMany` and `InvalidValue` section and record
+    /// entry and geometry, or package and slot, of `OutOfMemory` as its total says; for `TooMany` and `InvalidValue` section and
+    /// record
     pub e: [u64; 2],
     /// as the library gives them
     pub figures: [u64; 3],
@@ -591,4 +605,23 @@ pub fn append_instances(
         _ => of_tlas,
     };
     Err(AppendManyRefused { number: a.number, error, position, figures: a.figures, misfit: misfit.map(Box::new), used })
+}
+
+#[cfg(test)]
+mod tests {
+    use super::*;
+
+    /// No library gives these, so they are tried here: what a figure doesn't say is not guessed.
+    #[test]
+    fn figures_without_a_name_are_handed_on() {
+        use BuildAccelerationStructureError as E;
+        assert_eq!(E::from_numbers(37, [1, 0, 0]), E::OutOfMemory(RunningTotal::Entries));
+        assert_eq!(E::from_numbers(37, [2, 0, 0]), E::OutOfMemory(RunningTotal::Packages));
+        for f0 in [0, 3, 257, 258, u64::MAX] {
+            assert_eq!(E::from_numbers(37, [f0, 1, 2]), E::Other { number: 37, figures: [f0, 1, 2] });
+        }
+        for f0 in [0, 4, u64::MAX] {
+            assert_eq!(E::from_numbers(21, [f0, 1, 0]), E::Other { number: 21, figures: [f0, 1, 0] });
+        }
+    }
 }

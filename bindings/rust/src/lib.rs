@@ -48,7 +48,7 @@ mod words;
 
 pub use building::{
     AppendManyRefused, AppendRefused, BuildAccelerationStructureError, BuildRefused, Built, LentOutputs, Outputs, Recorded,
-    Resource, Tables, Written, append_instance, append_instances, build_acceleration_structures,
+    Resource, RunningTotal, Tables, Written, append_instance, append_instances, build_acceleration_structures,
 };
 pub use format::{Allowed, Field, KindOf, Section, Used};
 pub use groups::{MOST_GROUPS, OpenRefused, open_groups, opened_slots};

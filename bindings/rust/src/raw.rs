@@ -44,7 +44,7 @@ pub struct Sheet {
 pub struct Built {
     /// 0, or why it is refused
     pub number: u64,
-    /// entry and geometry, package and slot; for 4 and 5 section and record
+    /// entry and geometry, package and slot, of 37 as the first figure says; for 4 and 5 section and record
     pub e: [u64; 2],
     /// of the refusal
     pub figures: [u64; 3],

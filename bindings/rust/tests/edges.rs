@@ -440,6 +440,132 @@ fn whatever_is_refused_is_named_and_nothing_panics() {
     assert!([1, 2, 4, 5, 6, 12, 13, 23].iter().all(|n| seen[*n] > 0), "{seen:?}");
 }
 
+/// A build of entries without geometries and packages without slots, each of a Blas or a Tlas of its own with such a scratch size,
+/// and what became of painted outputs. The ids run the other way, so that none is taken for the entry or the package.
+fn build_sized(alignment: u32, blas_sizes: &[u64], tlas_sizes: &[u64]) -> (Result<Built, BuildRefused>, Outputs) {
+    let back = |i: usize, of: &[u64]| u16::try_from(of.len() - 1 - i).unwrap();
+    let blas = |size: &u64| Blas { build_scratch_size: *size, flags: ALLOW_COMPACTION, ..Default::default() };
+    let tlas = |size: &u64| Tlas { build_scratch_size: *size, ..Default::default() };
+    let entry = |i| BlasBuildEntry { blas: BlasId(back(i, blas_sizes)), ..Default::default() };
+    let package = |i| TlasPackage { tlas: TlasId(back(i, tlas_sizes)), ..Default::default() };
+    let blases = table(&blas_sizes.iter().rev().map(blas).collect::<Vec<Blas>>()).unwrap();
+    let tlases = table(&tlas_sizes.iter().rev().map(tlas).collect::<Vec<Tlas>>()).unwrap();
+    let entries = table(&(0..blas_sizes.len()).map(entry).collect::<Vec<BlasBuildEntry>>()).unwrap();
+    let packages = table(&(0..tlas_sizes.len()).map(package).collect::<Vec<TlasPackage>>()).unwrap();
+    let tables = Tables { blases: &blases, tlases: &tlases, entries: &entries, packages: &packages, ..Default::default() };
+    let mut outputs = painted(&tables);
+    let built = build_acceleration_structures(alignment, &tables, outputs.lend());
+    if built.is_err() {
+        assert_eq!(outputs, painted(&tables), "a refused build writes nothing");
+    }
+    (built, outputs)
+}
+
+fn painted(tables: &Tables) -> Outputs {
+    let mut outputs = Outputs::for_tables(tables);
+    outputs.blas_offsets.fill(0x5a5a);
+    outputs.tlas_offsets.fill(0x5a5a);
+    outputs.staging_ranges.fill(0x5a5a);
+    outputs.compactable.fill(0x5a5a);
+    outputs.lists.fill(0x5a5a);
+    outputs
+}
+
+const TOP: u64 = u64::MAX;
+const HALF: u64 = 1 << 63;
+
+#[test]
+fn out_of_memory_names_the_entry_or_the_package() {
+    let refused = |alignment, blas_sizes: &[u64], tlas_sizes: &[u64]| {
+        let refused = build_sized(alignment, blas_sizes, tlas_sizes).0.unwrap_err();
+        assert!(refused.misfit.is_none());
+        let BuildAccelerationStructureError::OutOfMemory(total) = refused.error else { panic!("{refused:?}") };
+        let f0 = if total == RunningTotal::Entries { 1 } else { 2 };
+        assert_eq!((refused.number, refused.e[1], refused.figures), (37, 0, [f0, 0, 0]), "{refused:?}");
+        (total, refused.e[0], refused.to_string())
+    };
+    let entry = |i: u64| (RunningTotal::Entries, i, format!("refused 37: scratch 2^64 - 1, entry {i}"));
+    let package = |i: u64| (RunningTotal::Packages, i, format!("refused 37: scratch 2^64 - 1, package {i}"));
+    // one size alone, as it is and by rounding
+    assert_eq!(refused(1, &[TOP], &[]), entry(0));
+    assert_eq!(refused(256, &[7, TOP - 254], &[]), entry(1));
+    assert_eq!(refused(1, &[], &[TOP]), package(0));
+    assert_eq!(refused(3, &[], &[0, TOP]), package(1));
+    // a sum that reaches it, that would pass it, and that would be 0
+    assert_eq!(refused(1, &[HALF, 5, HALF - 6, 9], &[]), entry(2));
+    assert_eq!(refused(256, &[HALF, 0, TOP - 255 - HALF, 1], &[]), entry(3));
+    assert_eq!(refused(1, &[HALF, HALF], &[]), entry(1));
+    assert_eq!(refused(1, &[3], &[HALF, HALF]), package(1));
+    assert_eq!(refused(1, &[1 << 58; 64], &[]), entry(63));
+    assert_eq!(refused(1, &[], &[1 << 59; 32]), package(31));
+    // the first of several, and an entry before a package, however late it is
+    assert_eq!(refused(1, &[TOP, TOP, 0], &[TOP]), entry(0));
+    assert_eq!(refused(1, &[1, TOP - 2, 1], &[TOP]), entry(2));
+    assert_eq!(refused(1, &[1, TOP - 2], &[1, TOP - 1]), package(1));
+    // one less of each total is accepted; the two totals are not added
+    let (built, outputs) = build_sized(1, &[HALF, 5, HALF - 7], &[HALF, HALF - 2]);
+    assert_eq!(built.unwrap().scratch_size(), TOP - 1);
+    assert_eq!((&outputs.blas_offsets[..], &outputs.tlas_offsets[..]), (&[0, HALF, HALF + 5][..], &[0, HALF][..]));
+}
+
+#[test]
+fn out_of_memory_is_where_a_sum_says() {
+    let mut state = 0x5eed;
+    let mut seen = [0; 3];
+    for _ in 0..2000 {
+        let alignment = [1, 256, 255, u32::MAX][usize::try_from(next(&mut state) % 4).unwrap()];
+        let mut sizes = |most: u64| -> Vec<u64> {
+            let n = next(&mut state) % (most + 1);
+            (0..n).map(|_| next(&mut state) >> (next(&mut state) % 12)).collect()
+        };
+        let (blas_sizes, tlas_sizes) = (sizes(64), sizes(32));
+        let reached = |sizes: &[u64]| {
+            let mut total = 0;
+            sizes.iter().position(|size| {
+                total += u128::from(*size).next_multiple_of(alignment.into());
+                total >= TOP.into()
+            })
+        };
+        let by_hand = match (reached(&blas_sizes), reached(&tlas_sizes)) {
+            (Some(i), _) => Some((RunningTotal::Entries, i)),
+            (None, i) => i.map(|i| (RunningTotal::Packages, i)),
+        };
+        let told = build_sized(alignment, &blas_sizes, &tlas_sizes).0.err().map(|refused| match refused.error {
+            BuildAccelerationStructureError::OutOfMemory(total) => (total, usize::try_from(refused.e[0]).unwrap()),
+            _ => panic!("{refused:?}"),
+        });
+        assert_eq!(told, by_hand, "{alignment} {blas_sizes:?} {tlas_sizes:?}");
+        seen[told.map_or(0, |(total, _)| if total == RunningTotal::Entries { 1 } else { 2 })] += 1;
+    }
+    assert!(seen.iter().all(|n| *n > 50), "{seen:?}");
+}
+
+#[test]
+fn out_of_memory_keeps_its_place() {
+    use BuildAccelerationStructureError as E;
+    let with = |blas: Blas, tlas: Tlas| {
+        let world = World::new();
+        let (blases, tlases) = (table(&[blas, world.tables().records::<Blas>().unwrap()[1]]).unwrap(), table(&[tlas]).unwrap());
+        let tables = Tables { blases: &blases, tlases: &tlases, ..world.tables() };
+        let refused = build_acceleration_structures(256, &tables, Outputs::for_tables(&tables).lend()).unwrap_err();
+        (refused.error, refused.e)
+    };
+    let blas = Blas { flags: USE_TRANSFORM, build_scratch_size: TOP, destroyed: true, ..Default::default() };
+    let tlas = Tlas { build_scratch_size: TOP, max_instance_count: 2, destroyed: true, ..Default::default() };
+    // after too many slots, before what is destroyed or compacted
+    let few = Tlas { max_instance_count: 1, ..tlas };
+    assert_eq!(with(blas, few), (E::TlasInstanceCountExceeded { count: 2, most: 1 }, [0, 0]));
+    assert_eq!(with(blas, tlas), (E::OutOfMemory(RunningTotal::Entries), [0, 0]));
+    let compacted = Blas { build_scratch_size: 300, compacted_state: BlasCompactState::Compacted, destroyed: false, ..blas };
+    assert_eq!(with(compacted, tlas), (E::OutOfMemory(RunningTotal::Packages), [0, 0]));
+    // and before too little room
+    let blases = table(&[Blas { build_scratch_size: TOP, ..Default::default() }]).unwrap();
+    let entries = table(&[BlasBuildEntry::default()]).unwrap();
+    let tables = Tables { blases: &blases, entries: &entries, ..Default::default() };
+    let refused = build_acceleration_structures(1, &tables, LentOutputs::default()).unwrap_err();
+    assert_eq!((refused.error, refused.e), (E::OutOfMemory(RunningTotal::Entries), [0, 0]));
+}
+
 #[test]
 fn errors_speak_the_librarys_words() {
     fn is_error<E: std::error::Error + Send + Sync + 'static>(_: &E) {}

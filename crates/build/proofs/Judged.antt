@@ -14,7 +14,7 @@ use Rattle.ray_tracing.proofs.Inside.{inside}
 use Rattle.build_judge.specs.declared.Judgement.{Judgement}
 use Rattle.build_judge.specs.declared.Judgement.the-variants as judgement
 use Rattle.build_judge.specs.Judging.{BuildJudged, to-refuse, to-record-nothing, to-record, judgementOf, judgeBuild}
-use Rattle.build_judge.proofs.Answer.{Passed, nothing-passed, recorded-passed, answer-refused, answer-nothing, answer-recorded}
+use Rattle.build_judge.proofs.Answer.{Passed, nothing-passed, recorded-passed, recorded-scratch, answer-refused, answer-nothing, answer-recorded}
 use Rattle.build_ranges.specs.Ranges.{DrawnFit}
 use Rattle.build_plan.specs.Planned.{planned, Plannable}
 use Rattle.build_plan.proofs.Judged.{plan-is, geometries-drawn, plannable}
@@ -64,8 +64,10 @@ module _ (x : Tables) where
     passed-drawn : DrawnFit (x .entries) (x .geometries)
     passed-drawn = geometries-drawn x (inside x (p .tables) (p .ids)) (p .entries) bytes
 
-    passed-plannable : Plannable (x .alignment) (x .blases) (x .tlases) (x .entries) (x .geometries) (x .packages) (x .slots)
-    passed-plannable = plannable x (inside x (p .tables) (p .ids)) (p .entries) bytes (p .packages)
+    passed-plannable :
+        plan.judgeScratch x ≡ plan.passed
+        → Plannable (x .alignment) (x .blases) (x .tlases) (x .entries) (x .geometries) (x .packages) (x .slots)
+    passed-plannable s = plannable x (inside x (p .tables) (p .ids)) (p .entries) bytes (p .packages) s
 
   module _ {j : Judgement} (k : judgementOf j ≡ judgeBuild x) where
     told : {i : Judgement} → j ≡ i → judgeBuild x ≡ judgementOf i
@@ -79,7 +81,7 @@ module _ (x : Tables) where
         → (n : ℕ)
         → j ≡ judgement.ToRecord n
         → Plannable (x .alignment) (x .blases) (x .tlases) (x .entries) (x .geometries) (x .packages) (x .slots)
-    record-plannable bytes n h = passed-plannable bytes (recorded-passed x n (told h))
+    record-plannable bytes n h = passed-plannable bytes (recorded-passed x n (told h)) (recorded-scratch x n (told h))
 
     pub refused-build :
         (o : Outputs) (c : BuildAccelerationStructureError) (e f : ℕ)
@@ -144,7 +146,7 @@ module _ (x : Tables) (o : Outputs) where
         record {
           plan =
               λ n w q. (
-                passed-plannable x bytes p,
+                passed-plannable x bytes p (recorded-scratch x m h),
                 room-is (planFrom x) o
                     (ap (λ (y : Outputs). tooShort y o) (plan-from x p) ∙ some-recorded (tooShort (plan.planOf x) o) m n _ w (r ∙ q)),
               );

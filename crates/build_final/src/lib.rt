@@ -1,60 +1,102 @@
-// The scratch that entries and packages share, and what is judged last, before room: 37, then 21 of Tlases, then 21 and 38 of
-// Blases.
+// The scratch that entries and packages share, or where 37 stands; and what is judged last, before room: 21 of Tlases, then 21 and 38
+// of Blases.
 use ray_tracing::Blas;
 use ray_tracing::BlasId;
 use ray_tracing::BuildAccelerationStructureError;
 use ray_tracing::ENTRY_SIZE;
 use ray_tracing::PACKAGE_SIZE;
 use ray_tracing::Resource;
+use ray_tracing::RunningTotal;
 use ray_tracing::Verdict;
 use ray_tracing::first;
 use records::blas_of_entry;
 use records::entry_at;
 use records::package_at;
 use records::tlas_of_package;
+use scratch::Rounding;
 use scratch::add_rounded;
 ghost use mathlib.Core.Path.{_≡_};
 ghost use mathlib.Core.List.{[]};
-ghost use Prim.Native.Nat.{_+_, _-_, _*_, _/_, _^_, _≤_, _<_, max};
+ghost use Prim.Native.Nat.{_+_, _*_, _/_, _≤_, _<_, max};
 ghost use lib.ListN.{length};
 ghost use lib.Dec.{eqb};
 ghost use Rattle.ray_tracing.specs.Layout.{size};
 ghost use Rattle.ray_tracing.specs.Causes.{cause, bare};
-ghost use Rattle.ray_tracing.specs.Plan.{tablesOf, packageOf, entryOf, blasTotal, tlasTotal, scratchSize};
+ghost use Rattle.scratch.specs.Scratch.{addRounded};
+ghost use Rattle.ray_tracing.specs.Plan.{tablesOf, packageOf, entryOf, blasTotal, tlasTotal, blasReached, tlasReached};
 ghost use Rattle.ray_tracing.specs.Plan.{refused, on, _or_, firstOf, tlasDestroyed, blasBuildable};
 ghost use Rattle.ray_tracing.specs.Code.{verdictOf};
+ghost use Rattle.build_final.specs.Sized.{belowTop, ofEntriesAt, ofPackagesAt, sizedOf, sizedUnless, scratchOf};
 ghost use Rattle.ray_tracing.specs.Parts.{forPackages, forEntries, entriesIn, packagesIn, PackagesNamed, EntriesNamed};
 
+// What the scratch of a build comes to: its size; or the first entry or package at which its running total reaches 2^64 - 1 or would pass it.
+pub enum ScratchSize {
+    Size(u64),
+    Reached(RunningTotal, usize),
+}
+
+// A running total with one more size, as long as it stays below 2^64 - 1.
+fn add_below(total: u64, size: u64, alignment: u64) -> Rounding
+    requires { ⌜ 1 ≤ alignment ⌝ }
+    ensures { λ r. ⌜ r ≡ belowTop (addRounded total size alignment) ⌝ }
+{
+    let Rounding::Rounded(sum) = add_rounded(total, size, alignment) else {
+        return Rounding::Passed;
+    };
+    if sum == 18446744073709551615 {
+        return Rounding::Passed;
+    }
+    Rounding::Rounded(sum)
+}
+
 // Blas scratch runs from 0.
-fn blas_total(alignment: u32, blases: &[u8], entries: &[u8]) -> u64
+fn blas_total(alignment: u32, blases: &[u8], entries: &[u8]) -> ScratchSize
     requires { ⌜ (1 ≤ alignment) × EntriesNamed (now blases) (now entries) ⌝ }
-    ensures { λ r. ⌜ r ≡ blasTotal (tablesOf alignment [] (now (blases .entry)) [] [] (now (entries .entry)) [] [] []) ⌝ }
+    ensures { λ r. ⌜
+        sizedOf r
+        ≡ (sizedUnless
+        (blasReached (ofEntriesAt alignment (now (blases .entry)) (now (entries .entry))))
+        (blasTotal (ofEntriesAt alignment (now (blases .entry)) (now (entries .entry)))))
+        ⌝ }
 {
     let n = entries.len() / ENTRY_SIZE;
     let mut total: u64 = 0;
     let mut i: usize = 0;
     while i < n {
         let blas = blas_of_entry(blases, entries, i);
-        total = add_rounded(total, blas.build_scratch_size, alignment as u64);
+        let Rounding::Rounded(sum) = add_below(total, blas.build_scratch_size, alignment as u64)
+        else {
+            return ScratchSize::Reached(RunningTotal::Entries, i);
+        };
+        total = sum;
         i += 1;
     }
-    total
+    ScratchSize::Size(total)
 }
 
 // Packages run their own total from 0.
-fn tlas_total(alignment: u32, tlases: &[u8], packages: &[u8]) -> u64
+fn tlas_total(alignment: u32, tlases: &[u8], packages: &[u8]) -> ScratchSize
     requires { ⌜ (1 ≤ alignment) × PackagesNamed (now tlases) (now packages) ⌝ }
-    ensures { λ r. ⌜ r ≡ tlasTotal (tablesOf alignment [] [] [] (now (tlases .entry)) [] [] (now (packages .entry)) []) ⌝ }
+    ensures { λ r. ⌜
+        sizedOf r
+        ≡ (sizedUnless
+        (tlasReached (ofPackagesAt alignment (now (tlases .entry)) (now (packages .entry))))
+        (tlasTotal (ofPackagesAt alignment (now (tlases .entry)) (now (packages .entry)))))
+        ⌝ }
 {
     let n = packages.len() / PACKAGE_SIZE;
     let mut total = 0u64;
     let mut p: usize = 0;
     while p < n {
         let tlas = tlas_of_package(tlases, packages, p);
-        total = add_rounded(total, tlas.build_scratch_size, alignment as u64);
+        let Rounding::Rounded(sum) = add_below(total, tlas.build_scratch_size, alignment as u64)
+        else {
+            return ScratchSize::Reached(RunningTotal::Packages, p);
+        };
+        total = sum;
         p += 1;
     }
-    total
+    ScratchSize::Size(total)
 }
 
 fn larger(a: u64, b: u64) -> u64
@@ -63,24 +105,30 @@ fn larger(a: u64, b: u64) -> u64
     if a < b { b } else { a }
 }
 
-// They share the scratch.
+// They share the scratch; a package is named only if the entries' total stays below.
 pub fn scratch_size(
     alignment: u32,
     blases: &[u8],
     tlases: &[u8],
     entries: &[u8],
     packages: &[u8],
-) -> u64
+) -> ScratchSize
     requires { ⌜ (1 ≤ alignment) × EntriesNamed (now blases) (now entries) × PackagesNamed (now tlases) (now packages) ⌝ }
     ensures { λ r. ⌜
-        r
-        ≡ scratchSize
+        sizedOf r
+        ≡ scratchOf
         (tablesOf alignment [] (now (blases .entry)) [] (now (tlases .entry)) (now (entries .entry)) [] (now (packages .entry)) [])
         ⌝ }
 {
-    let blas = blas_total(alignment, blases, entries);
-    let tlas = tlas_total(alignment, tlases, packages);
-    larger(blas, tlas)
+    let of_entries = blas_total(alignment, blases, entries);
+    let ScratchSize::Size(blas) = of_entries else {
+        return of_entries;
+    };
+    let of_packages = tlas_total(alignment, tlases, packages);
+    let ScratchSize::Size(tlas) = of_packages else {
+        return of_packages;
+    };
+    ScratchSize::Size(larger(blas, tlas))
 }
 
 // The Tlas of package p is not destroyed.
@@ -177,19 +225,12 @@ fn blases_buildable(blases: &[u8], entries: &[u8]) -> Verdict
     Verdict::Passed
 }
 
-// 37; Tlases destroyed, 21; per entry 21, 38.
-pub fn judge_final(
-    size: u64,
-    blases: &[u8],
-    tlases: &[u8],
-    entries: &[u8],
-    packages: &[u8],
-) -> Verdict
+// Tlases destroyed, 21; per entry 21, 38.
+pub fn judge_final(blases: &[u8], tlases: &[u8], entries: &[u8], packages: &[u8]) -> Verdict
     requires { ⌜ EntriesNamed (now blases) (now entries) × PackagesNamed (now tlases) (now packages) ⌝ }
     ensures { λ r. ⌜
         verdictOf r
-        ≡ (on (eqb size (2 ^ 64 - 1)) (refused 0 0 (bare 37))
-        or firstOf
+        ≡ (firstOf
         (tlasDestroyed (forPackages [] (now (tlases .entry)) (now (packages .entry)) []))
         0
         (packagesIn (now (packages .entry)))
@@ -199,9 +240,6 @@ pub fn judge_final(
         (entriesIn (now (entries .entry))))
         ⌝ }
 {
-    if size == 18446744073709551615 {
-        return Verdict::Refused(BuildAccelerationStructureError::OutOfMemory, 0, 0);
-    }
     let v = tlases_destroyed(tlases, packages);
     first(v, blases_buildable(blases, entries))
 }

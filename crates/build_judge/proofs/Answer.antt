@@ -17,6 +17,7 @@ use Rattle.ray_tracing.specs.Plan.{
   judgeIds,
   judgeEntries,
   judgePackages,
+  judgeScratch,
   judgeFinal,
   scratchSize,
   planOf,
@@ -131,8 +132,7 @@ module _ (x : Tables) where
   unfolding judgeBuild
   recorded-passed n h = records-passed (record-passed (judgeToPackages x) (eqb (scratchSize x) 0) (judgeFinal x) (scratchSize x) n h .0)
 
-  pub recorded-final : (n : ℕ) → judgeBuild x ≡ to-record n → (judgeFinal x ≡ passed) × (n ≡ scratchSize x)
-  unfolding judgeBuild
-  recorded-final n h =
-      let r = record-passed (judgeToPackages x) (eqb (scratchSize x) 0) (judgeFinal x) (scratchSize x) n h in
-      (r .2, r .3)
+  pub recorded-scratch : (n : ℕ) → judgeBuild x ≡ to-record n → judgeScratch x ≡ passed
+  unfolding judgeBuild judgeFinal
+  recorded-scratch n h =
+      or-passed (judgeScratch x) _ (record-passed (judgeToPackages x) (eqb (scratchSize x) 0) (judgeFinal x) (scratchSize x) n h .2) .0

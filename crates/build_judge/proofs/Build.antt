@@ -1,21 +1,24 @@
 -- How the parts of judging make the whole: what each part shows for the next, and the part of the tables that each reads.
-use Prim.Native.Nat.{ℕ, _-_, _/_, _^_}
+use Prim.Native.Nat.{ℕ, _/_}
 use native.Mathlib.Omega.{arith}
 use mathlib.Core.Path.{_≡_, refl, sym, ap, _∙_}
-use mathlib.Core.Bool.{false}
+use mathlib.Core.Bool.{cond}
 use mathlib.Core.List.{[]}
 use lib.ListN.{length}
 use lib.Dec.{eqb}
 use borrow.Author.Tests.{eq-eqb, ne-eqb}
-use Rattle.ray_tracing.specs.Causes.{Cause, bare}
+use Rattle.ray_tracing.specs.Causes.{Cause}
 use Rattle.ray_tracing.specs.Layout.{size}
-use Rattle.ray_tracing.specs.Plan.{Tables, Verdict, passed, refused, on, _or_, firstOf, judgeTables, judgeIds, judgeEntries, judgePackages, scratchSize, tlasDestroyed, blasBuildable, judgeFinal, tablesOf}
-use Rattle.ray_tracing.proofs.Verdicts.{or-passed}
+use Rattle.ray_tracing.specs.Plan.{Tables, Verdict, passed, refused, _or_, firstOf, judgeTables, judgeIds, judgeEntries, judgePackages, scratchSize, judgeScratch, tlasDestroyed, blasBuildable, judgeFinal, tablesOf}
+use Rattle.ray_tracing.proofs.Verdicts.{or-passed, refused-not-passed}
+use Rattle.ray_tracing.proofs.Running.{refused-size}
 use Rattle.ray_tracing.proofs.Inside.{drawnBefore, slotsBefore, Inside, inside, tables-drawn, tables-slots}
 use Rattle.ray_tracing.specs.Parts.{forPackages, forEntries, entriesIn, packagesIn, PackagesNamed, EntriesNamed}
 use Rattle.build_packages.specs.Within.{PackagesInside}
 use Rattle.build_ids.proofs.Laws.{or-first, or-second}
-use Rattle.build_judge.specs.Judging.{to-refuse, to-record-nothing, to-record, judgeToPackages, judgeBuild}
+use Rattle.build_final.specs.Sized.{Sized, sized, reached, sizedUnless, scratchOf}
+use Rattle.build_final.proofs.Shared.{told-reached, told-sized}
+use Rattle.build_judge.specs.Judging.{BuildJudged, to-refuse, to-record-nothing, to-record, judgedUnless, judgeToPackages, judgeSize, judgeBuild}
 
 module _ (x : Tables) where
   -- what judging ids and packages reads of the tables
@@ -95,41 +98,54 @@ module _ (x : Tables) where
   abbrev scratchPart : Tables
   scratchPart = tablesOf (x .alignment) [] (x .blases) [] (x .tlases) (x .entries) [] (x .packages) []
 
-  pub scratch-part : scratchSize scratchPart ≡ scratchSize x
-  unfolding scratchSize
+  scratch-part : scratchOf scratchPart ≡ sizedUnless (judgeScratch x) (scratchSize x)
+  unfolding scratchOf judgeScratch scratchSize
   scratch-part = refl
 
-  -- the final checks, with the scratch size at hand
-  abbrev finalPart : ℕ → Verdict
-  finalPart size =
-      on (eqb size (2 ^ 64 - 1)) (refused 0 0 (bare 37))
-      or firstOf (tlasDestroyed (forPackages [] (x .tlases) (x .packages) [])) 0 (packagesIn (x .packages))
+  -- the final checks, past the scratch
+  abbrev finalPart : Verdict
+  finalPart =
+      firstOf (tlasDestroyed (forPackages [] (x .tlases) (x .packages) [])) 0 (packagesIn (x .packages))
       or firstOf (blasBuildable (forEntries [] (x .blases) [] (x .entries) [])) 0 (entriesIn (x .entries))
 
-  final-part : {n : ℕ} → n ≡ scratchSize x → finalPart n ≡ judgeFinal x
+  final-part : judgeScratch x ≡ passed → finalPart ≡ judgeFinal x
   unfolding judgeFinal
-  final-part e = ap finalPart e
+  final-part h = rw h
+
+  final-reached : (e f : ℕ) (c : Cause) → judgeScratch x ≡ refused e f c → judgeFinal x ≡ refused e f c
+  unfolding judgeFinal
+  final-reached e f c h = rw h
 
   pub build-refused : (e f : ℕ) (c : Cause) → judgeToPackages x ≡ refused e f c → to-refuse e f c ≡ judgeBuild x
   unfolding judgeBuild
   build-refused e f c h = rw h
 
-  module _ (h : judgeToPackages x ≡ passed) {n : ℕ} (s : n ≡ scratchSize scratchPart) where
-    pub build-nothing : n ≡ 0 → to-record-nothing ≡ judgeBuild x
+  -- the size, then the final checks
+  pub size-nothing : {n : ℕ} → n ≡ 0 → to-record-nothing ≡ judgeSize n (x .blases) (x .tlases) (x .entries) (x .packages)
+  size-nothing {n} e = rw (eq-eqb n 0 e)
+
+  module _ {n : ℕ} (z : n ≡ 0 → ⊥) {v : Verdict} (l : v ≡ finalPart) where
+    pub size-to-record : v ≡ passed → to-record n ≡ judgeSize n (x .blases) (x .tlases) (x .entries) (x .packages)
+    size-to-record q = rw (ne-eqb n 0 z, sym l ∙ q)
+
+    pub size-refused : (e f : ℕ) (c : Cause) → v ≡ refused e f c → to-refuse e f c ≡ judgeSize n (x .blases) (x .tlases) (x .entries) (x .packages)
+    size-refused e f c q = rw (ne-eqb n 0 z, sym l ∙ q)
+
+  module _ (h : judgeToPackages x ≡ passed) {s : Sized} (p : s ≡ scratchOf scratchPart) where
+    pub build-sized :
+        {n : ℕ} {j : BuildJudged}
+        → s ≡ sized n
+        → j ≡ judgeSize n (x .blases) (x .tlases) (x .entries) (x .packages)
+        → j ≡ judgeBuild x
     unfolding judgeBuild
-    build-nothing z = rw (h, eq-eqb (scratchSize x) 0 (sym (s ∙ scratch-part) ∙ z))
+    build-sized {n} e q =
+        let t = told-sized (judgeScratch x) (scratchSize x) n (sym e ∙ p ∙ scratch-part) in
+        q ∙ rw h (λ i. cond (eqb (t .1 i) 0) to-record-nothing (judgedUnless (final-part (t .0) i) (to-record (t .1 i))))
 
-    module _ (z : n ≡ 0 → ⊥) {v : Verdict} (l : v ≡ finalPart n) where
-      some-scratch : eqb (scratchSize x) 0 ≡ false
-      some-scratch = ne-eqb (scratchSize x) 0 (λ e. z (s ∙ scratch-part ∙ e))
-
-      last : v ≡ judgeFinal x
-      last = l ∙ final-part (s ∙ scratch-part)
-
-      pub build-to-record : v ≡ passed → to-record n ≡ judgeBuild x
-      unfolding judgeBuild
-      build-to-record q = rw (h, some-scratch, sym last ∙ q) (ap to-record (s ∙ scratch-part))
-
-      pub build-last-refused : (e f : ℕ) (c : Cause) → v ≡ refused e f c → to-refuse e f c ≡ judgeBuild x
-      unfolding judgeBuild
-      build-last-refused e f c q = rw (h, some-scratch, sym last ∙ q)
+    -- 37 has its place after the zero test: where it is drawn the size is not 0
+    pub build-reached : (e f : ℕ) (c : Cause) → s ≡ reached e f c → to-refuse e f c ≡ judgeBuild x
+    unfolding judgeBuild
+    build-reached e f c q =
+        let t = told-reached (judgeScratch x) (scratchSize x) e f c (sym scratch-part ∙ sym p ∙ q) in
+        let some = refused-size x (λ r. refused-not-passed e f c (sym t ∙ r)) in
+        rw (h, ne-eqb (scratchSize x) 0 (λ z. omega (arith, some, z)), final-reached e f c t)

@@ -1,5 +1,6 @@
 // Judging a build, in the paper's order: tables, ids, entries, packages, the scratch, the final checks. Nothing is written.
 use build_entries::judge_entries;
+use build_final::ScratchSize;
 use build_final::judge_final;
 use build_final::scratch_size;
 use build_ids::judge_ids;
@@ -11,7 +12,8 @@ use ray_tracing::first;
 ghost use mathlib.Core.Path.{_≡_};
 ghost use Rattle.ray_tracing.specs.Code.{verdictOf};
 ghost use Rattle.ray_tracing.specs.Plan.{tablesOf};
-ghost use Rattle.build_judge.specs.Judging.{judgementOf, judgeToPackages, judgeBuild};
+ghost use Rattle.ray_tracing.specs.Parts.{PackagesNamed, EntriesNamed};
+ghost use Rattle.build_judge.specs.Judging.{judgementOf, judgeToPackages, judgeSize, judgeBuild};
 
 // What judging finds: the first refusal, with E; nothing to record; or a build to record, with its scratch size, if there is room.
 pub enum Judgement {
@@ -77,7 +79,30 @@ fn judge_records(
     first(e, judge_packages(blases, tlases, packages, slots))
 }
 
-// A build, up to where only room is left to judge: with a larger total of 0 nothing is recorded, and nothing more is judged.
+// A scratch size below 2^64 - 1: with a larger total of 0 nothing is recorded, and nothing more is judged.
+fn judge_size(size: u64, blases: &[u8], tlases: &[u8], entries: &[u8], packages: &[u8]) -> Judgement
+    requires { ⌜ EntriesNamed (now blases) (now entries) × PackagesNamed (now tlases) (now packages) ⌝ }
+    ensures { λ r. ⌜
+        judgementOf r
+        ≡ judgeSize
+        size
+        (now (blases .entry))
+        (now (tlases .entry))
+        (now (entries .entry))
+        (now (packages .entry))
+        ⌝ }
+{
+    if size == 0 {
+        return Judgement::Nothing;
+    }
+    let last = judge_final(blases, tlases, entries, packages);
+    match last {
+        Verdict::Passed => Judgement::ToRecord(size),
+        Verdict::Refused(e, i, j) => Judgement::Refused(e, i, j),
+    }
+}
+
+// A build, up to where only room is left to judge.
 pub fn judge_build(
     alignment: u32,
     buffers: &[u8],
@@ -118,13 +143,13 @@ pub fn judge_build(
     if let Verdict::Refused(e, i, j) = v {
         return Judgement::Refused(e, i, j);
     }
-    let size = scratch_size(alignment, blases, tlases, entries, packages);
-    if size == 0 {
-        return Judgement::Nothing;
-    }
-    let last = judge_final(size, blases, tlases, entries, packages);
-    match last {
-        Verdict::Passed => Judgement::ToRecord(size),
-        Verdict::Refused(e, i, j) => Judgement::Refused(e, i, j),
+    let scratch = scratch_size(alignment, blases, tlases, entries, packages);
+    match scratch {
+        ScratchSize::Size(size) => judge_size(size, blases, tlases, entries, packages),
+        ScratchSize::Reached(total, i) => Judgement::Refused(
+            BuildAccelerationStructureError::OutOfMemory(total),
+            i,
+            0,
+        ),
     }
 }

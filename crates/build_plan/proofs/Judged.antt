@@ -13,8 +13,9 @@ use Rattle.ray_tracing.specs.Records.{fieldAt}
 use Rattle.instance.specs.Writable.{Writable}
 use Rattle.ray_tracing.specs.Guard.{refuse}
 use Rattle.ray_tracing.specs.Instances.{presentOf, slotsBytes}
-use Rattle.ray_tracing.specs.Plan.{Tables, passed, recordsIn, entryOf, geometryOf, geometryCount, slotCount, slotPresent, blasOfEntry, checkedAt, checkedE, asked, judgeEntry, judgeEntries, judgeSlot, judgePackage, judgePackages, blasScratch, tlasScratch, offsetsFrom, stagingFrom, rangesOfEntry, rangesFrom, compactableFrom, entryBlases, packageLists, planOf}
+use Rattle.ray_tracing.specs.Plan.{Tables, passed, recordsIn, entryOf, geometryOf, geometryCount, slotCount, slotPresent, blasOfEntry, checkedAt, checkedE, asked, judgeEntry, judgeEntries, judgeSlot, judgePackage, judgePackages, judgeScratch, blasScratch, tlasScratch, offsetsFrom, stagingFrom, rangesOfEntry, rangesFrom, compactableFrom, entryBlases, packageLists, planOf}
 use Rattle.ray_tracing.proofs.Verdicts.{or-passed, none-atE, none-cond, each-passed, each-drawing}
+use Rattle.ray_tracing.proofs.Running.{totals-below}
 use Rattle.ray_tracing.proofs.Inside.{Inside, drawnBefore, drawn-none, drawn-more, slotsBefore, slots-none, slots-more}
 use Rattle.ray_tracing.specs.Parts.{ofEntries, ofPackages}
 use Rattle.build_lists.specs.Lists.{packageList, Drawn}
@@ -166,12 +167,17 @@ module _ (x : Tables) (i : Inside x) (e : judgeEntries x ≡ passed) (bytes : (k
   unfolding slotsBefore
   slots-drawn = record { all = i .slots-all; drawn = i .slots; most = i .most 8 (omega arith) (omega arith) }
 
-  pub plannable : judgePackages x ≡ passed → Plannable (x .alignment) (x .blases) (x .tlases) (x .entries) (x .geometries) (x .packages) (x .slots)
-  plannable p =
+  pub plannable :
+      judgePackages x ≡ passed
+      → judgeScratch x ≡ passed
+      → Plannable (x .alignment) (x .blases) (x .tlases) (x .entries) (x .geometries) (x .packages) (x .slots)
+  plannable p s =
       record {
         aligned = i .aligned;
         entry-blases = i .entry-blas;
+        blas-below = totals-below x s .0;
         package-tlases = i .package-tlas;
+        tlas-below = totals-below x s .1;
         slots-drawn = slots-drawn;
         writable = all-writable x p i;
         geometries-drawn = geometries-drawn;

@@ -1,17 +1,35 @@
 -- Laws of what is written piece by piece: the next piece, what an entry adds, and where nothing is left.
 use mathlib.Core.Path.{_≡_, sym, ap, _∙_}
 use mathlib.Core.List.{List, [], _∷_}
-use Prim.Native.Nat.{ℕ, _+_, _-_, _*_, _/_, _%_, _≤_, _<_}
+use Prim.Native.Nat.{ℕ, _+_, _-_, _*_, _/_, _%_, _^_, _≤_, _<_}
+use native.Mathlib.Omega.{arith}
 use native.Mathlib.Numerals.{add-one}
 use lib.ListN.{set}
 use lib.Seq.{sets}
 use borrow.Author.Tests.{eq-eqb, ne-eqb}
 use Rattle.ray_tracing.specs.declared.Blas.{Blas}
-use Rattle.ray_tracing.specs.Plan.{Tables, entryOf, slotCount, blasOfEntry, stagingFrom, compactableFrom}
+use Rattle.scratch.specs.declared.Rounding.the-variants as rounding
+use Rattle.scratch.specs.Scratch.{reported, addRounded}
+use Rattle.scratch.proofs.Laws.{told-past}
+use Rattle.ray_tracing.specs.Plan.{Tables, entryOf, slotCount, blasOfEntry, totalFrom, stagingFrom, compactableFrom}
+use Rattle.ray_tracing.proofs.Stretches.{total-step, total-upto}
 use Rattle.ray_tracing.specs.Instances.{presentOf}
 use Rattle.build_ranges.proofs.Appending.{Next}
 use Rattle.build_plan.specs.Parts.{compactableOf}
 use Rattle.ray_tracing.proofs.Plan.{left-more, left-none}
+
+-- ---- offsets: no total passes 2^64 - 1
+
+pub not-passed :
+    (f : ℕ → ℕ) (a n i total : ℕ)
+    → total ≡ totalFrom f a 0 0 i
+    → i < n
+    → totalFrom f a 0 0 n < 2 ^ 64 - 1
+    → rounding.Passed ≡ reported (addRounded total (f i) a)
+    → ⊥
+not-passed f a n i total t h b e =
+    let over = told-past (2 ^ 64 - 1) (addRounded total (f i) a) e in
+    omega (arith, over, total-step f a i t, total-upto f a (i + 1) n (omega arith), b)
 
 -- ---- staging ranges
 

@@ -6,7 +6,7 @@ use Rattle.ray_tracing.specs.Plan.{Outputs}
 use Rattle.ray_tracing.specs.Parts.{PackagesNamed, EntriesNamed}
 use Rattle.build_ranges.specs.Ranges.{rangesIn, DrawnFit}
 use Rattle.build_lists.specs.Lists.{Drawn, listsIn}
-use Rattle.build_plan.specs.Parts.{blasOffsets, tlasOffsets, stagingIn, instancesIn, compactableIn, AllWritable}
+use Rattle.build_plan.specs.Parts.{blasOffsets, BlasBelow, tlasOffsets, TlasBelow, stagingIn, instancesIn, compactableIn, AllWritable}
 
 abbrev pub planned : ℕ → List ℕ → List ℕ → List ℕ → List ℕ → List ℕ → List ℕ → Outputs
 planned alignment blases tlases entries geometries packages slots =
@@ -24,7 +24,9 @@ planned alignment blases tlases entries geometries packages slots =
 pub record Plannable (alignment : ℕ) (blases tlases entries geometries packages slots : List ℕ) : Type 0 where
   pub aligned : 1 ≤ alignment
   pub entry-blases : EntriesNamed blases entries
+  pub blas-below : BlasBelow alignment blases entries
   pub package-tlases : PackagesNamed tlases packages
+  pub tlas-below : TlasBelow alignment tlases packages
   pub slots-drawn : Drawn packages slots
   pub writable : AllWritable blases slots
   pub geometries-drawn : DrawnFit entries geometries

@@ -14,6 +14,7 @@ use records::blas_of_entry;
 use records::entry_at;
 use records::slot_count;
 use records::tlas_of_package;
+use scratch::Rounding;
 use scratch::add_rounded;
 ghost use mathlib.Core.Path.{_≡_};
 ghost use mathlib.Core.List.{[]};
@@ -24,13 +25,14 @@ ghost use Rattle.ray_tracing.specs.Plan.{countsOf, written, outputsOf};
 ghost use Rattle.ray_tracing.specs.Parts.{entriesIn, ofEntries, packagesIn, PackagesNamed, EntriesNamed};
 ghost use Rattle.build_ranges.specs.Ranges.{DrawnFit};
 ghost use Rattle.build_lists.specs.Lists.{Drawn};
-ghost use Rattle.build_plan.specs.Parts.{blasOffsets, tlasOffsets, stagingIn, instancesIn, AllWritable};
+ghost use Rattle.build_plan.specs.Parts.{blasOffsets, BlasBelow, tlasOffsets, TlasBelow, stagingIn, instancesIn, AllWritable};
 ghost use Rattle.build_plan.specs.Parts.{compactableOf, compactableIn};
 ghost use Rattle.build_plan.specs.Planned.{planned, Plannable, PlanRoom};
 
-// One offset per entry: the total before it.
+// One offset per entry: the total before it. No sum passes 2^64 - 1: the scratch was judged.
 fn write_blas_offsets(alignment: u32, blases: &[u8], entries: &[u8], out: &mut [u64])
     requires { ⌜ (1 ≤ alignment) × (entriesIn (now entries) ≤ length (now out)) × EntriesNamed (now blases) (now entries) ⌝ }
+    requires { ⌜ BlasBelow alignment (now blases) (now entries) ⌝ }
     ensures { λ _. ⌜
         now (out .exit) ≡ sets (now (out .entry)) 0 (blasOffsets alignment (now (blases .entry)) (now (entries .entry)))
         ⌝ }
@@ -40,7 +42,14 @@ fn write_blas_offsets(alignment: u32, blases: &[u8], entries: &[u8], out: &mut [
     while i < entries.len() / ENTRY_SIZE {
         out[i] = blas_total;
         let blas = blas_of_entry(blases, entries, i);
-        blas_total = add_rounded(blas_total, blas.build_scratch_size, alignment as u64);
+        let Rounding::Rounded(sum) = add_rounded(
+            blas_total,
+            blas.build_scratch_size,
+            alignment as u64,
+        ) else {
+            return;
+        };
+        blas_total = sum;
         i += 1;
     }
 }
@@ -48,6 +57,7 @@ fn write_blas_offsets(alignment: u32, blases: &[u8], entries: &[u8], out: &mut [
 // One offset per package, from 0 again: Blases and Tlases share the scratch.
 fn write_tlas_offsets(alignment: u32, tlases: &[u8], packages: &[u8], out: &mut [u64])
     requires { ⌜ (1 ≤ alignment) × (packagesIn (now packages) ≤ length (now out)) × PackagesNamed (now tlases) (now packages) ⌝ }
+    requires { ⌜ TlasBelow alignment (now tlases) (now packages) ⌝ }
     ensures { λ _. ⌜
         now (out .exit) ≡ sets (now (out .entry)) 0 (tlasOffsets alignment (now (tlases .entry)) (now (packages .entry)))
         ⌝ }
@@ -57,7 +67,14 @@ fn write_tlas_offsets(alignment: u32, tlases: &[u8], packages: &[u8], out: &mut 
     while p < packages.len() / PACKAGE_SIZE {
         out[p] = tlas_total;
         let tlas = tlas_of_package(tlases, packages, p);
-        tlas_total = add_rounded(tlas_total, tlas.build_scratch_size, alignment as u64);
+        let Rounding::Rounded(sum) = add_rounded(
+            tlas_total,
+            tlas.build_scratch_size,
+            alignment as u64,
+        ) else {
+            return;
+        };
+        tlas_total = sum;
         p += 1;
     }
 }

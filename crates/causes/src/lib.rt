@@ -1,10 +1,11 @@
 // The paper's number of each cause, with its figures: what the definitions in ray_tracing/specs/Causes.antt say, as code.
 use ray_tracing::BuildAccelerationStructureError as Error;
 use ray_tracing::Resource;
+use ray_tracing::RunningTotal;
 use ray_tracing::SheetError;
 use ray_tracing::ValidateAsActionsError;
 ghost use mathlib.Core.Path.{_≡_};
-ghost use Rattle.ray_tracing.specs.Causes.{sheetNumber, sorted, cause, buildCause, submissionCause};
+ghost use Rattle.ray_tracing.specs.Causes.{sheetNumber, sorted, cause, runningTotal, buildCause, submissionCause};
 ghost use Rattle.causes.specs.Figures.{causeOf, plainly};
 
 // A cause's number and its figures; those that a refusal lacks are 0.
@@ -45,6 +46,15 @@ fn resource_figures(number: u64, r: Resource) -> Figures
         Resource::Buffer(b) => with_figures(number, 1, b.0 as u64, 0),
         Resource::Blas(b) => with_figures(number, 2, b.0 as u64, 0),
         Resource::Tlas(t) => with_figures(number, 3, t.0 as u64, 0),
+    }
+}
+
+fn running_total(t: RunningTotal) -> u64
+    ensures { λ r. ⌜ r ≡ runningTotal t ⌝ }
+{
+    match t {
+        RunningTotal::Entries => 1,
+        RunningTotal::Packages => 2,
     }
 }
 
@@ -125,7 +135,7 @@ pub fn build_figures(e: Error) -> Figures
             most as u64,
             0,
         ),
-        Error::OutOfMemory => with_figures(37, 0, 0, 0),
+        Error::OutOfMemory(t) => with_figures(37, running_total(t), 0, 0),
         Error::CompactedBlas => with_figures(38, 0, 0, 0),
         Error::OutputTooShort => with_figures(39, 0, 0, 0),
     }

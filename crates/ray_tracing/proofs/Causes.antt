@@ -39,6 +39,6 @@ positive (build.InvalidAabbStride a) = lit< tt
 positive build.TlasInvalidCustomIndex = lit< tt
 positive build.TlasDependentMissingVertexReturn = lit< tt
 positive (build.TlasInstanceCountExceeded a b) = lit< tt
-positive build.OutOfMemory = lit< tt
+positive (build.OutOfMemory a) = lit< tt
 positive build.CompactedBlas = lit< tt
 positive build.OutputTooShort = lit< tt

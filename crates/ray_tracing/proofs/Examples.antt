@@ -10,7 +10,7 @@ use Rattle.ray_tracing.specs.Layout.{Field, layout}
 use Rattle.ray_tracing.specs.Reading.{judgeFields, judgeRecords, judgeDrawn, sumOfCounts, judgeLent, past, from, judgeSection, judgeSections, judgeSheet, readSheet}
 use Rattle.ray_tracing.specs.Causes.{Cause, cause, bare}
 use Rattle.ray_tracing.specs.Instances.{presentOf, slotsBytes, slotBytes, instanceBytes, instanceFrom, words, patterns, wordsAt}
-use Rattle.ray_tracing.specs.Plan.{Tables, tablesOf, Building, recorded, not-built, planOf, build, firstOf, firstDrawing, declaredFrom, judgeTables, judgeIds, judgeEntries, judgePackages, totalFrom, offsetsFrom, scratchSize, judgeFinal, stagingFrom, rangesOfEntry, rangesFrom, compactableFrom, entryBlases, dependenciesFrom, packageLists}
+use Rattle.ray_tracing.specs.Plan.{Tables, tablesOf, Building, recorded, not-built, planOf, build, firstOf, firstDrawing, declaredFrom, judgeTables, judgeIds, judgeEntries, judgePackages, totalFrom, offsetsFrom, scratchSize, judgeScratch, judgeFinal, stagingFrom, rangesOfEntry, rangesFrom, compactableFrom, entryBlases, dependenciesFrom, packageLists}
 use Rattle.ray_tracing.specs.Submission.{Lent, Piece, Outcome, accepted, refused, _leaving_, decode, submission, blasIn, tlasIn, listIn, judge, judgeLists, packagesAt, packagesLent, action, decodeCells, before, builtBlas, builtBlases, builtTlas, buildTlases, act, step, run}
 use Rattle.ray_tracing.proofs.DemandExamples.{lent, piece, lists-7, first-7, second-7}
 use Rattle.ray_tracing.specs.Canonical.{sectionBytes, sheetBytes}
@@ -143,7 +143,7 @@ pub are-eight : length eight ≡ 8
 are-eight = refl
 
 pub examples : AllOf eight
-unfolding leAt leBytes refuse judgeFields judgeRecords judgeDrawn sumOfCounts judgeLent presentOf slotsBytes slotBytes instanceBytes instanceFrom words patterns wordsAt planOf build firstOf firstDrawing declaredFrom judgeTables judgeIds judgeEntries judgePackages totalFrom offsetsFrom scratchSize judgeFinal stagingFrom rangesOfEntry rangesFrom compactableFrom entryBlases dependenciesFrom packageLists blasIn tlasIn listIn judge judgeLists packagesAt packagesLent action decodeCells before builtBlas builtBlases builtTlas buildTlases act step run submission
+unfolding leAt leBytes refuse judgeFields judgeRecords judgeDrawn sumOfCounts judgeLent presentOf slotsBytes slotBytes instanceBytes instanceFrom words patterns wordsAt planOf build firstOf firstDrawing declaredFrom judgeTables judgeIds judgeEntries judgePackages totalFrom offsetsFrom scratchSize judgeScratch judgeFinal stagingFrom rangesOfEntry rangesFrom compactableFrom entryBlases dependenciesFrom packageLists blasIn tlasIn listIn judge judgeLists packagesAt packagesLent action decodeCells before builtBlas builtBlases builtTlas buildTlases act step run submission
 examples = (
   ((refl, (refl, refl)), ((refl, (refl, refl)), tt)),
   (
@@ -190,5 +190,5 @@ abbrev pub workedText : List ℕ
 workedText = ascii "build 0 0 0 0 0 0\nscratch 512\nblas 0 0\ntlas 0 0 0 64\nsubmit 0 0 0 0\nnext 2\n"
 
 pub worked : report (sheetBytes 256 1 workedTables) ≡ workedText
-unfolding leAt leBytes refuse judgeFields judgeRecords judgeDrawn sumOfCounts judgeLent presentOf slotsBytes slotBytes instanceBytes instanceFrom words patterns wordsAt planOf build firstOf firstDrawing declaredFrom judgeTables judgeIds judgeEntries judgePackages totalFrom offsetsFrom scratchSize judgeFinal stagingFrom rangesOfEntry rangesFrom compactableFrom entryBlases dependenciesFrom packageLists blasIn tlasIn listIn judge judgeLists packagesAt packagesLent action decodeCells before builtBlas builtBlases builtTlas buildTlases act step run submission past from judgeSection judgeSections judgeSheet readSheet sectionBytes sheetBytes digits spaced line blasLines tlasLines actionCells positions submitLines builtLines report
+unfolding leAt leBytes refuse judgeFields judgeRecords judgeDrawn sumOfCounts judgeLent presentOf slotsBytes slotBytes instanceBytes instanceFrom words patterns wordsAt planOf build firstOf firstDrawing declaredFrom judgeTables judgeIds judgeEntries judgePackages totalFrom offsetsFrom scratchSize judgeScratch judgeFinal stagingFrom rangesOfEntry rangesFrom compactableFrom entryBlases dependenciesFrom packageLists blasIn tlasIn listIn judge judgeLists packagesAt packagesLent action decodeCells before builtBlas builtBlases builtTlas buildTlases act step run submission past from judgeSection judgeSections judgeSheet readSheet sectionBytes sheetBytes digits spaced line blasLines tlasLines actionCells positions submitLines builtLines report
 worked = refl

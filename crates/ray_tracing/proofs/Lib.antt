@@ -34,9 +34,11 @@ pub mod Decode
 pub mod Applied
 pub mod Plan
 pub mod Stretches
+pub mod Running
 pub mod Staged
 pub mod RecordedAction
 pub mod PlanLaws
+pub mod Stopped
 pub mod Vulkan
 pub mod Lent
 pub mod Told
@@ -44,3 +46,4 @@ pub mod Outcomes
 pub mod Callers
 pub mod DemandExamples
 pub mod Examples
+pub mod ReachedExamples

@@ -13,12 +13,13 @@ use borrow.Author.Tests.{eqb-false, ltb-false}
 use Rattle.ray_tracing.specs.declared.Written.{Written}
 use Rattle.ray_tracing.specs.Layout.{size}
 use Rattle.ray_tracing.specs.Causes.{Cause, bare}
-use Rattle.ray_tracing.specs.Plan.{Tables, Verdict, passed, refused, on, _or_, firstOf, recordsIn, blasOfEntry, tlasOfPackage, judgeTables, judgeIds, judgeEntries, judgePackages, judgeFinal, tlasDestroyed, blasBuildable, blasScratch, tlasScratch, blasTotal, tlasTotal, scratchSize, entryBlases, Outputs, planOf, tooShort, short, countsOf, Building, recorded, nothing-recorded, not-built, unless, build, leaves}
+use Rattle.ray_tracing.specs.Plan.{Tables, Verdict, passed, refused, on, _or_, firstOf, recordsIn, blasOfEntry, tlasOfPackage, judgeTables, judgeIds, judgeEntries, judgePackages, judgeFinal, tlasDestroyed, blasBuildable, blasScratch, tlasScratch, blasTotal, tlasTotal, scratchSize, judgeScratch, entryBlases, Outputs, planOf, tooShort, short, countsOf, Building, recorded, nothing-recorded, not-built, unless, build, leaves}
 use Rattle.ray_tracing.specs.Submission as submission
 use Rattle.ray_tracing.specs.Submission.{Lent, Action, decodeCells}
 use Rattle.ray_tracing.proofs.Verdicts.{or-passed, on-passed, each-passed}
 use Rattle.ray_tracing.proofs.Inside.{Inside, inside}
-use Rattle.ray_tracing.proofs.Stretches.{total-limit, offsets-aligned, stretches-apart, stretches-within}
+use Rattle.ray_tracing.proofs.Stretches.{offsets-aligned, stretches-apart, stretches-within}
+use Rattle.ray_tracing.proofs.Running.{totals-below}
 use Rattle.ray_tracing.proofs.RecordedAction.{recordedPackages, action-decoded, only-counter}
 
 -- ---- what a recorded build was judged
@@ -122,8 +123,8 @@ module _ (x : Tables) (o : Outputs) (n : ℕ) (w : Written) (r : build x o ≡ r
   pub facts : Inside x
   facts = inside x (judged .tables) (judged .ids)
 
-  final-parts :
-      (on (eqb (scratchSize x) (2 ^ 64 - 1)) (refused 0 0 (bare 37)) ≡ passed)
+  pub final-parts :
+      (judgeScratch x ≡ passed)
       × ((firstOf (tlasDestroyed x) 0 (recordsIn x 7) ≡ passed) × (firstOf (blasBuildable x) 0 (recordsIn x 5) ≡ passed))
   unfolding judgeFinal
   final-parts =
@@ -131,27 +132,27 @@ module _ (x : Tables) (o : Outputs) (n : ℕ) (w : Written) (r : build x o ≡ r
       let b = or-passed (firstOf (tlasDestroyed x) 0 (recordsIn x 7)) _ (a .1) in
       (a .0, (b .0, b .1))
 
-  not-stopped : (scratchSize x ≡ 2 ^ 64 - 1) → ⊥
-  not-stopped = eqb-false (scratchSize x) (2 ^ 64 - 1) (on-passed _ 0 0 (bare 37) (final-parts .0))
-
-  -- the totals are below 2^64 - 1, and the scratch size holds both
-  totals : (blasTotal x < 2 ^ 64 - 1) × ((tlasTotal x < 2 ^ 64 - 1) × ((blasTotal x ≤ n) × (tlasTotal x ≤ n)))
+  -- the scratch size is below 2^64 - 1, and holds both totals
+  pub size-below : n < 2 ^ 64 - 1
   unfolding scratchSize
-  totals =
-      let b = total-limit (blasScratch x) (x .alignment) (recordsIn x 5) in
-      let t = total-limit (tlasScratch x) (x .alignment) (recordsIn x 7) in
+  size-below =
+      let t = totals-below x (final-parts .0) in
+      omega (arith, judged .size, t .0, t .1)
+
+  holds : (blasTotal x ≤ n) × (tlasTotal x ≤ n)
+  unfolding scratchSize
+  holds =
       let e = judged .size in
-      let s = not-stopped in
-      (omega arith, (omega arith, (omega arith, omega arith)))
+      (omega arith, omega arith)
 
   -- offsets are multiples of the alignment
   pub blas-aligned : (i : ℕ) → i < recordsIn x 5 → getD (planOf x .«blas_offsets») i 0 % x .alignment ≡ 0
   unfolding planOf
-  blas-aligned = offsets-aligned (blasScratch x) (x .alignment) (recordsIn x 5) (totals .0)
+  blas-aligned = offsets-aligned (blasScratch x) (x .alignment) (recordsIn x 5)
 
   pub tlas-aligned : (p : ℕ) → p < recordsIn x 7 → getD (planOf x .«tlas_offsets») p 0 % x .alignment ≡ 0
   unfolding planOf
-  tlas-aligned = offsets-aligned (tlasScratch x) (x .alignment) (recordsIn x 7) (totals .1 .0)
+  tlas-aligned = offsets-aligned (tlasScratch x) (x .alignment) (recordsIn x 7)
 
   -- stretches of Blases do not overlap, nor those of Tlases
   pub blas-apart :
@@ -160,7 +161,7 @@ module _ (x : Tables) (o : Outputs) (n : ℕ) (w : Written) (r : build x o ≡ r
       → j < recordsIn x 5
       → getD (planOf x .«blas_offsets») i 0 + blasScratch x i ≤ getD (planOf x .«blas_offsets») j 0
   unfolding planOf
-  blas-apart = stretches-apart (blasScratch x) (x .alignment) (recordsIn x 5) (totals .0) (facts .aligned)
+  blas-apart = stretches-apart (blasScratch x) (x .alignment) (recordsIn x 5) (facts .aligned)
 
   pub tlas-apart :
       (p q : ℕ)
@@ -168,18 +169,18 @@ module _ (x : Tables) (o : Outputs) (n : ℕ) (w : Written) (r : build x o ≡ r
       → q < recordsIn x 7
       → getD (planOf x .«tlas_offsets») p 0 + tlasScratch x p ≤ getD (planOf x .«tlas_offsets») q 0
   unfolding planOf
-  tlas-apart = stretches-apart (tlasScratch x) (x .alignment) (recordsIn x 7) (totals .1 .0) (facts .aligned)
+  tlas-apart = stretches-apart (tlasScratch x) (x .alignment) (recordsIn x 7) (facts .aligned)
 
   -- every stretch lies within the scratch size
   pub blas-within : (i : ℕ) → i < recordsIn x 5 → getD (planOf x .«blas_offsets») i 0 + blasScratch x i ≤ n
   unfolding planOf
   blas-within i h =
-      omega (arith, stretches-within (blasScratch x) (x .alignment) (recordsIn x 5) (totals .0) (facts .aligned) i h, totals .1 .1 .0)
+      omega (arith, stretches-within (blasScratch x) (x .alignment) (recordsIn x 5) (facts .aligned) i h, holds .0)
 
   pub tlas-within : (p : ℕ) → p < recordsIn x 7 → getD (planOf x .«tlas_offsets») p 0 + tlasScratch x p ≤ n
   unfolding planOf
   tlas-within p h =
-      omega (arith, stretches-within (tlasScratch x) (x .alignment) (recordsIn x 7) (totals .1 .0) (facts .aligned) p h, totals .1 .1 .1)
+      omega (arith, stretches-within (tlasScratch x) (x .alignment) (recordsIn x 7) (facts .aligned) p h, holds .1)
 
   -- its Tlases are not destroyed, its Blases neither destroyed nor compacted
   pub tlas-kept : (p : ℕ) → p < recordsIn x 7 → tlasOfPackage x p .destroyed ≡ 1 → ⊥

@@ -1,16 +1,14 @@
--- Stretches of scratch: where nothing stopped, each offset is a multiple of the alignment, and the stretches from offsets on, each as long as
--- its unrounded size, are apart and within the total.
+-- Stretches of scratch: each offset is a multiple of the alignment, and the stretches from offsets on, each as long as its unrounded size, are
+-- apart and within the total. A total is not below the one before it.
 use mathlib.Core.Path.{_≡_, refl, sym, ap, _∙_}
-use Prim.Native.Nat.{ℕ, _-_, zero, suc, _+_, _/_, _%_, _^_, _≤_, _<_}
+use Prim.Native.Nat.{ℕ, _-_, zero, suc, _+_, _/_, _%_, _≤_, _<_}
 use native.Mathlib.Nat.{zero-add, add-zero, not-suc-le-zero, le-of-suc-le-suc, add-mul-mod-self-right, zero-mod}
 use native.Mathlib.Numerals.{add-one}
 use native.Mathlib.Omega.{arith}
 use lib.ListN.{getD}
 use Rattle.scratch.specs.Scratch.{roundUp, addRounded}
-use Rattle.scratch.proofs.Laws.{round-above, total-grows, total-exact}
+use Rattle.scratch.proofs.Laws.{round-above}
 use Rattle.ray_tracing.specs.Plan.{totalFrom, offsetsFrom}
-
--- ---- stretches of scratch
 
 module _ (sizeOf : ℕ → ℕ) (a : ℕ) where
   total-next :
@@ -35,53 +33,46 @@ module _ (sizeOf : ℕ → ℕ) (a : ℕ) where
   total-more : (k : ℕ) → total (k + 1) ≡ addRounded (total k) (sizeOf k) a
   total-more k = ap total (add-one k) ∙ total-next 0 0 k ∙ ap (λ (j : ℕ). addRounded (total k) (sizeOf j) a) (zero-add k)
 
-  total-none : total 0 ≡ 0
+  -- one more size, as a loop adds it
+  pub total-step : {t : ℕ} (k : ℕ) → t ≡ total k → addRounded t (sizeOf k) a ≡ total (k + 1)
+  total-step k e = ap (λ (s : ℕ). addRounded s (sizeOf k) a) e ∙ sym (total-more k)
+
+  pub total-none : total 0 ≡ 0
   unfolding totalFrom
   total-none = refl
-
-  pub total-limit : (k : ℕ) → total k ≤ 2 ^ 64 - 1
-  total-limit zero = omega (arith, total-none)
-  total-limit (suc k) = rw (total-next 0 0 k) (omega arith)
 
   total-mono : (k d : ℕ) → total k ≤ total (k + d)
   total-mono k zero = rw add-zero (omega arith)
   total-mono k (suc d) =
       let e : k + suc d ≡ k + d + 1 = omega arith in
-      rw (e, total-more (k + d)) (omega (arith, total-mono k d, total-grows (total (k + d)) (sizeOf (k + d)) a (omega (arith, total-limit (k + d)))))
+      rw (e, total-more (k + d)) (omega (arith, total-mono k d))
 
-  -- where nothing stopped
-  module _ (n : ℕ) (h : total n < 2 ^ 64 - 1) where
-    below : (k : ℕ) → k ≤ n → total k < 2 ^ 64 - 1
-    below k l =
-        let e : k + (n - k) ≡ n = omega arith in
-        omega (arith, total-mono k (n - k), ap total e)
+  pub total-upto : (k n : ℕ) → k ≤ n → total k ≤ total n
+  total-upto k n l =
+      let e : k + (n - k) ≡ n = omega arith in
+      omega (arith, total-mono k (n - k), ap total e)
 
-    exact : (k : ℕ) → k < n → total (k + 1) ≡ total k + roundUp (sizeOf k) a
-    exact k l = total-more k ∙ total-exact (total k) (sizeOf k) a (rw (← total-more k) (below (k + 1) (omega arith)))
+  multiple : (k : ℕ) → total k % a ≡ 0
+  multiple zero = rw total-none (zero-mod a)
+  multiple (suc k) =
+      ap (λ (m : ℕ). m % a) (ap total (sym (add-one k)) ∙ total-more k)
+      ∙ add-mul-mod-self-right (total k) ((sizeOf k + (a - 1)) / a) a
+      ∙ multiple k
 
-    multiple : (k : ℕ) → k ≤ n → total k % a ≡ 0
-    multiple zero l = rw total-none (zero-mod a)
-    multiple (suc k) l =
-        ap (λ (m : ℕ). m % a) (ap total (sym (add-one k)) ∙ exact k (omega arith))
-        ∙ add-mul-mod-self-right (total k) ((sizeOf k + (a - 1)) / a) a
-        ∙ multiple k (omega arith)
-
+  module _ (n : ℕ) where
     abbrev offsets : ℕ → ℕ
     offsets k = getD (offsetsFrom sizeOf a 0 0 n) k 0
 
     pub offsets-aligned : (k : ℕ) → k < n → offsets k % a ≡ 0
-    offsets-aligned k l = rw (offset-at 0 0 n k l) (multiple k (omega arith))
+    offsets-aligned k l = rw (offset-at 0 0 n k l) (multiple k)
 
     module _ (one : 1 ≤ a) where
       stretch-end : (k : ℕ) → k < n → offsets k + sizeOf k ≤ total (k + 1)
-      stretch-end k l = rw (offset-at 0 0 n k l) (omega (arith, exact k l, round-above (sizeOf k) a one))
+      stretch-end k l = rw (offset-at 0 0 n k l) (omega (arith, total-more k, round-above (sizeOf k) a one))
 
       pub stretches-apart : (j k : ℕ) → j < k → k < n → offsets j + sizeOf j ≤ offsets k
       stretches-apart j k l m =
-          let e : j + 1 + (k - (j + 1)) ≡ k = omega arith in
-          omega (arith, stretch-end j (omega arith), offset-at 0 0 n k m, total-mono (j + 1) (k - (j + 1)), ap total e)
+          omega (arith, stretch-end j (omega arith), offset-at 0 0 n k m, total-upto (j + 1) k (omega arith))
 
       pub stretches-within : (k : ℕ) → k < n → offsets k + sizeOf k ≤ total n
-      stretches-within k l =
-          let e : k + 1 + (n - (k + 1)) ≡ n = omega arith in
-          omega (arith, stretch-end k l, total-mono (k + 1) (n - (k + 1)), ap total e)
+      stretches-within k l = omega (arith, stretch-end k l, total-upto (k + 1) n (omega arith))

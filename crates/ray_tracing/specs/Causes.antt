@@ -12,6 +12,8 @@ use Rattle.ray_tracing.specs.declared.SheetRead.{SheetRead}
 use Rattle.ray_tracing.specs.declared.SheetRead.the-variants as sheet-read
 use Rattle.ray_tracing.specs.declared.Resource.{Resource}
 use Rattle.ray_tracing.specs.declared.Resource.the-variants as resource
+use Rattle.ray_tracing.specs.declared.RunningTotal.{RunningTotal}
+use Rattle.ray_tracing.specs.declared.RunningTotal.the-variants as running-total
 use Rattle.ray_tracing.specs.declared.BuildAccelerationStructureError.{BuildAccelerationStructureError}
 use Rattle.ray_tracing.specs.declared.BuildAccelerationStructureError.the-variants as build
 use Rattle.ray_tracing.specs.declared.ValidateAsActionsError.{ValidateAsActionsError}
@@ -55,6 +57,11 @@ sorted n (resource.Buffer b) = cause n 1 (b .0) 0
 sorted n (resource.Blas b) = cause n 2 (b .0) 0
 sorted n (resource.Tlas t) = cause n 3 (t .0) 0
 
+-- "a first figure of 1 for an entry or 2 for a package"
+abbrev pub runningTotal : RunningTotal → ℕ
+runningTotal running-total.Entries = 1
+runningTotal running-total.Packages = 2
+
 -- a build's causes, E apart
 abbrev pub buildCause : BuildAccelerationStructureError → Cause
 buildCause build.TooMany = bare 4
@@ -87,7 +94,7 @@ buildCause (build.InvalidAabbStride stride) = cause 33 stride 0 0
 buildCause build.TlasInvalidCustomIndex = bare 34
 buildCause build.TlasDependentMissingVertexReturn = bare 35
 buildCause (build.TlasInstanceCountExceeded count most) = cause 36 count most 0
-buildCause build.OutOfMemory = bare 37
+buildCause (build.OutOfMemory t) = cause 37 (runningTotal t) 0 0
 buildCause build.CompactedBlas = bare 38
 buildCause build.OutputTooShort = bare 39
 

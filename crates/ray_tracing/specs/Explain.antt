@@ -128,17 +128,22 @@ abbrev pub oneOf : ℕ → List ℕ → Bool
 oneOf n [] = false
 oneOf n (m ∷ ms) = eqb n m || oneOf n ms
 
+-- "with the entry or package, 0, and a first figure of 1 for an entry or 2 for a package"; there is no other
+abbrev pub reachedWord : ℕ → String
+reachedWord figure = cond (eqb figure 1) "entry" (cond (eqb figure 2) "package" "entry or package")
+
 -- "E is entry and its geometry, or package and its slot, from 0 (second 0 where there is none)"; of 4 and 5 section and record; none
--- of 37 and 39
+-- of 39
 abbrev pub placeItems : Cause → ℕ → ℕ → List Item
 placeItems c e f =
-    cond (oneOf (c .number) (37 ∷ 39 ∷ [])) []
+    cond (eqb (c .number) 39) []
     (cond (oneOf (c .number) (4 ∷ 5 ∷ [])) ("section" is e ∷ "record" is f ∷ [])
+    (cond (eqb (c .number) 37) (reachedWord (c .first) is e ∷ [])
     (cond (eqb (c .number) 6) ("entry or package" is e ∷ "geometry or slot" is f ∷ [])
     (cond (oneOf (c .number) (34 ∷ 35 ∷ [])) ("package" is e ∷ "slot" is f ∷ [])
     (cond (eqb (c .number) 36 || (eqb (c .number) 21 && eqb (c .first) 3)) ("package" is e ∷ [])
     (cond (eqb (c .number) 38 || (eqb (c .number) 21 && eqb (c .first) 2)) ("entry" is e ∷ [])
-    ("entry" is e ∷ "geometry" is f ∷ []))))))
+    ("entry" is e ∷ "geometry" is f ∷ [])))))))
 
 -- the column "Returned" of a build, E apart
 abbrev pub figureItems : Cause → List Item

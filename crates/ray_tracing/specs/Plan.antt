@@ -6,7 +6,7 @@ use mathlib.Core.Option.{Option, none, some}
 use mathlib.Core.List.{List, [], _∷_, _++_}
 use lib.ListN.{length, getD}
 use lib.Seq.{sets}
-use lib.Dec.{ltb, eqb}
+use lib.Dec.{leb, ltb, eqb}
 use Rattle.scratch.specs.Scratch.{addRounded}
 use Rattle.ray_tracing.specs.declared.Buffer.{Buffer}
 use Rattle.ray_tracing.specs.declared.Blas.{Blas}
@@ -248,8 +248,8 @@ judgePackage x p s =
 unfoldable pub judgePackages : Tables → Verdict
 judgePackages x = firstDrawing (judgePackage x) (slotCount x) 0 0 (recordsIn x 7)
 
--- "Blas scratch runs from 0, each size rounded up to the alignment; sums and rounding stop at 2^64 - 1. Packages run their own total
--- from 0."
+-- "Blas scratch runs from 0, each size rounded up to the alignment", "Packages run their own total from 0.": whole numbers, since passing
+-- 2^64 - 1 is reported "instead of stopping there"
 
 -- the total after n more sizes, from the i-th on
 unfoldable pub totalFrom : (ℕ → ℕ) → ℕ → ℕ → ℕ → ℕ → ℕ
@@ -278,6 +278,23 @@ tlasTotal x = totalFrom (tlasScratch x) (x .alignment) 0 0 (recordsIn x 7)
 unfoldable pub scratchSize : Tables → ℕ
 scratchSize x = max (blasTotal x) (tlasTotal x)
 
+-- "reaches 2^64 - 1 or would pass it", "with the entry or package, 0, and a first figure of 1 for an entry or 2 for a package": 37 at the
+-- i-th, whose total is that of all up to it
+abbrev pub reachedAt : (ℕ → ℕ) → ℕ → ℕ → ℕ → Verdict
+reachedAt sizeOf alignment figure i =
+    on (leb (2 ^ 64 - 1) (totalFrom sizeOf alignment 0 0 (i + 1))) (refused i 0 (cause 37 figure 0 0))
+
+-- "37 then gives the first entry at which the running Blas total reaches 2^64 - 1 or would pass it"
+abbrev pub blasReached : Tables → Verdict
+blasReached x = firstOf (reachedAt (blasScratch x) (x .alignment) 1) 0 (recordsIn x 5)
+
+-- "if the Blas total stays below, the first such package"
+abbrev pub tlasReached : Tables → Verdict
+tlasReached x = firstOf (reachedAt (tlasScratch x) (x .alignment) 2) 0 (recordsIn x 7)
+
+unfoldable pub judgeScratch : Tables → Verdict
+judgeScratch x = blasReached x or tlasReached x
+
 -- "2^64 - 1: 37. Tlases destroyed: 21. Per entry: 21, 38."
 
 abbrev pub tlasDestroyed : Tables → ℕ → Verdict
@@ -291,7 +308,7 @@ blasBuildable x i =
 
 unfoldable pub judgeFinal : Tables → Verdict
 judgeFinal x =
-    on (eqb (scratchSize x) (2 ^ 64 - 1)) (refused 0 0 (bare 37))
+    judgeScratch x
     or firstOf (tlasDestroyed x) 0 (recordsIn x 7)
     or firstOf (blasBuildable x) 0 (recordsIn x 5)
 

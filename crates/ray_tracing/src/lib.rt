@@ -197,6 +197,12 @@ pub enum Resource {
     Tlas(TlasId),
 }
 
+// Whose running total of scratch it is: entries run one for their Blases, packages one for their Tlases.
+pub enum RunningTotal {
+    Entries,
+    Packages,
+}
+
 // Why a build is refused. The Rust's names, and those that the paper adds: where the Rust panics, ids and values of lent tables, room.
 pub enum BuildAccelerationStructureError {
     TooMany,
@@ -237,7 +243,7 @@ pub enum BuildAccelerationStructureError {
     TlasInvalidCustomIndex,
     TlasDependentMissingVertexReturn,
     TlasInstanceCountExceeded(u32, u32),
-    OutOfMemory,
+    OutOfMemory(RunningTotal),
     CompactedBlas,
     OutputTooShort,
 }

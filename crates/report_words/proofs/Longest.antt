@@ -20,6 +20,7 @@ use Rattle.ray_tracing.specs.Explain.{
   causes,
   causeWords,
   sortWord,
+  reachedWord,
   kindWords,
   placeItems,
   figureItems,
@@ -87,8 +88,11 @@ word : (n : ℕ) (b : Bool) (v w : String) → length (ascii v) ≤ n → length
 word n true v w h k = h
 word n false v w h k = k
 
+reached-most : (n v : ℕ) → widest (reachedWord n is v ∷ []) ≤ 78
+reached-most n v = let h : length (ascii (reachedWord n)) ≤ 16 = search (word, lit≤) depth 9 in omega arith
+
 place-most : (c : Cause) (e f : ℕ) → widest (placeItems c e f) ≤ 78
-place-most c e f = search (either, lit≤) depth 9
+place-most c e f = search (either, reached-most, lit≤) depth 12
 
 sort-most : (n v : ℕ) → widest (sortWord n is v ∷ []) ≤ 87
 sort-most n v = let h : length (ascii (sortWord n)) ≤ 8 = search (word, lit≤) depth 9 in omega arith

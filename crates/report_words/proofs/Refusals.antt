@@ -38,6 +38,7 @@ use Rattle.report_words.specs.Lines.{
   pastLines,
   lines,
   destroyedPlace,
+  reachedPlace,
   buildPlace,
   unbuiltPlace,
   actionPlace,
@@ -165,6 +166,15 @@ module _ (call e f x y z : ℕ) where
       go false h false i true k = rw (eqb-true x 3 k)
       go false h false i false k = rw (h, i, k)
 
+  reached : Build 37
+  unfolding letter filled pastLines lines digits numberFor
+  reached = go (eqb x 1) refl (eqb x 2) refl
+    where
+      go : (a : Bool) → eqb x 1 ≡ a → (b : Bool) → eqb x 2 ≡ b → Build 37
+      go true h b i = rw (eqb-true x 1 h)
+      go false h true i = rw (eqb-true x 2 i)
+      go false h false i = rw (h, i)
+
   build-first : AllFrom Build 4 3
   unfolding letter filled pastLines lines digits numberFor
   build-first = refl and refl and refl and end
@@ -173,7 +183,8 @@ module _ (call e f x y z : ℕ) where
   unfolding letter filled pastLines lines digits numberFor
   build-others =
       refl and refl and refl and refl and refl and refl and refl and refl and refl and refl and refl and destroyed
-      and refl and refl and refl and refl and refl and refl and refl and refl and refl and refl and refl and refl and refl and refl and refl and refl and refl and refl and end
+      and refl and refl and refl and refl and refl and refl and refl and refl and refl and refl and refl and refl and refl and refl and refl and reached
+      and refl and refl and end
 
   build :
       (n : ℕ)
@@ -190,7 +201,7 @@ module _ (call e f x y z : ℕ) where
           → at n (buildPlace n x) ≡ cond (a || b) (explanation (of-build e f (cause n x y z))) (noSuchCause n)
       go true h b k = bounded Build 4 3 6 n refl build-first h ∙ line-is n (buildItems e f (cause n x y z))
       go false h true k = bounded Build 10 30 39 n refl build-others k ∙ line-is n (buildItems e f (cause n x y z))
-      go false h false k = rw (h, ne-eqb n 21 (outside 10 39 21 n refl k), k) (unknown n)
+      go false h false k = rw (h, ne-eqb n 21 (outside 10 39 21 n refl k), ne-eqb n 37 (outside 10 39 37 n refl k), k) (unknown n)
 
   abbrev Submit : ℕ → Type 0
   Submit n = at n (actionPlace n f) ≡ begun n (submitItems e f (cause n x y z))

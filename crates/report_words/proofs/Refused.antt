@@ -60,7 +60,7 @@ build-told (build.InvalidAabbStride stride) e g = record { numbers = refl; words
 build-told build.TlasInvalidCustomIndex e g = record { numbers = refl; words = refl }
 build-told build.TlasDependentMissingVertexReturn e g = record { numbers = refl; words = refl }
 build-told (build.TlasInstanceCountExceeded count most) e g = record { numbers = refl; words = refl }
-build-told build.OutOfMemory e g = record { numbers = refl; words = refl }
+build-told (build.OutOfMemory t) e g = record { numbers = refl; words = refl }
 build-told build.CompactedBlas e g = record { numbers = refl; words = refl }
 build-told build.OutputTooShort e g = record { numbers = refl; words = refl }
 

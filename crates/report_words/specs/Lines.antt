@@ -55,7 +55,7 @@ linesFrom line n (suc k) = line n ++ linesFrom line (n + 1) k
 abbrev pub sheetLine : ℕ → List ℕ
 sheetLine n = lineOf n ("byte" is 69 ∷ [])
 
--- with a first figure, a letter or a sort
+-- with a first figure, a letter or one that decides the words
 abbrev pub buildText : ℕ → ℕ → List ℕ
 buildText first n = lineOf n (placeItems (cause n first 89 90) 69 70 ++ figureItems (cause n first 89 90))
 
@@ -74,7 +74,7 @@ abbrev pub manyText : ℕ → ℕ → List ℕ
 manyText f n = lineOf n (map (λ i. i .word is 70) (manyItems f n))
 
 -- none and any number; a sheet's; a build's, and 21 of a Blas, of a Tlas, of no sort; a submission's, with 42 of a Build, and 42 of
--- a use and of no kind; an append's; a group's; an append's of many, and 6 at position 0
+-- a use and of no kind; an append's; a group's; an append's of many, and 6 at position 0; and 37 of an entry and of a package
 unfoldable pub lines : List ℕ
 lines =
     ascii "nothing is refused\nrefused #: no such cause\n"
@@ -95,7 +95,8 @@ lines =
     ++ (linesFrom appendLine 34 2
     ++ (appendLine 39
     ++ (linesFrom openText 45 2
-    ++ (linesFrom (manyText 70) 5 2 ++ (linesFrom (manyText 70) 34 2 ++ manyText 0 6)))))))))))))))))))
+    ++ (linesFrom (manyText 70) 5 2
+    ++ (linesFrom (manyText 70) 34 2 ++ (manyText 0 6 ++ (buildText 1 37 ++ buildText 2 37)))))))))))))))))))))
 
 -- Which line
 
@@ -103,9 +104,14 @@ lines =
 abbrev pub destroyedPlace : ℕ → ℕ
 destroyedPlace sort = cond (eqb sort 1) 21 (cond (eqb sort 2) 40 (cond (eqb sort 3) 41 42))
 
+-- of 37, by the figure
+abbrev pub reachedPlace : ℕ → ℕ
+reachedPlace figure = cond (eqb figure 1) 66 (cond (eqb figure 2) 67 37)
+
 abbrev pub buildPlace : ℕ → ℕ → ℕ
-buildPlace n sort =
-    cond (between 4 6 n) (n + 3) (cond (eqb n 21) (destroyedPlace sort) (cond (between 10 39 n) (n + 0) 1))
+buildPlace n first =
+    cond (between 4 6 n) (n + 3)
+    (cond (eqb n 21) (destroyedPlace first) (cond (eqb n 37) (reachedPlace first) (cond (between 10 39 n) (n + 0) 1)))
 
 -- of 42, by the kind
 abbrev pub unbuiltPlace : ℕ → ℕ
@@ -133,12 +139,12 @@ manyPlace n f =
     cond (eqb n 6 && eqb f 0) 65
     (cond (between 34 35 n) (n + 29) (cond (between 5 6 n) (n + 56) (cond (eqb n 39) 58 1)))
 
--- of a call's number: by the kind or the position, which is its F, and the sort, which is its X
+-- of a call's number: by the kind or the position, which is its F, and the first figure, which is its X
 abbrev pub linePlace : ℕ → ℕ → ℕ → ℕ → ℕ
-linePlace call n kind sort =
+linePlace call n kind first =
     cond (eqb n 0) 0
     (cond (eqb call 1) (cond (between 1 5 n) (n + 1) 1)
-    (cond (eqb call 2) (buildPlace n sort)
+    (cond (eqb call 2) (buildPlace n first)
     (cond (eqb call 3) (actionPlace n kind)
     (cond (eqb call 4) (appendPlace n)
     (cond (eqb call 5) (writePlace n)

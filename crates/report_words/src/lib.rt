@@ -26,7 +26,7 @@ ghost use Rattle.report_text.specs.Put.{Put};
 ghost use Rattle.report_words.specs.Refused.{refusedBy, wordsIn, Refuses};
 ghost use Rattle.report_words.specs.Longest.{longestExplanation};
 ghost use Rattle.report_words.specs.Lines.{numberFor, isNumber, letter, filled, pastLines, lines};
-ghost use Rattle.report_words.specs.Lines.{destroyedPlace, buildPlace, unbuiltPlace, actionPlace};
+ghost use Rattle.report_words.specs.Lines.{destroyedPlace, reachedPlace, buildPlace, unbuiltPlace, actionPlace};
 ghost use Rattle.report_words.specs.Lines.{appendPlace, writePlace, openPlace, manyPlace, linePlace};
 
 // The call that refuses, by its number (1 reads a sheet, 2 builds, 3 submits, 4 appends an instance, 5 writes a sheet, 6 opens groups, 7 appends many
@@ -231,7 +231,7 @@ refused 33: box stride below 24 or not in eights, entry E, geometry F, stride X
 refused 34: custom data from 2^24 on, package E, slot F
 refused 35: Tlas returns vertices, Blas does not, package E, slot F
 refused 36: too many present slots, package E, count X, most Y
-refused 37: scratch 2^64 - 1
+refused 37: scratch 2^64 - 1, entry or package E
 refused 38: compacted Blas, entry E
 refused 39: lent output too short
 refused 21: destroyed, entry E, Blas Y
@@ -260,6 +260,8 @@ refused 6: id outside its table, instance F
 refused 34: custom data from 2^24 on, instance F
 refused 35: Tlas returns vertices, Blas does not, instance F
 refused 6: id outside its table, Tlas or instance F
+refused 37: scratch 2^64 - 1, entry E
+refused 37: scratch 2^64 - 1, package E
 ";
     put_line_of(out, at, lines, n, v)
 }
@@ -287,11 +289,19 @@ fn destroyed_place(sort: u64) -> usize
     pick(sort == 1, 21, pick(sort == 2, 40, pick(sort == 3, 41, 42)))
 }
 
-fn build_place(n: u64, sort: u64) -> usize
-    ensures { λ r. ⌜ r ≡ buildPlace n sort ⌝ }
+// By whose total it is.
+fn reached_place(figure: u64) -> usize
+    ensures { λ r. ⌜ r ≡ reachedPlace figure ⌝ }
+{
+    pick(figure == 1, 66, pick(figure == 2, 67, 37))
+}
+
+fn build_place(n: u64, first: u64) -> usize
+    ensures { λ r. ⌜ r ≡ buildPlace n first ⌝ }
 {
     let one = shifted(n, 10, 39, 0, 1);
-    let other = pick(n == 21, destroyed_place(sort), one);
+    let reached = pick(n == 37, reached_place(first), one);
+    let other = pick(n == 21, destroyed_place(first), reached);
     shifted(n, 4, 6, 3, other)
 }
 
@@ -338,15 +348,15 @@ fn many_place(n: u64, f: u64) -> usize
     pick(both(n == 6, f == 0), 65, shifted(n, 34, 35, 29, other))
 }
 
-fn line_place(call: u64, n: u64, kind: u64, sort: u64) -> usize
-    ensures { λ r. ⌜ r ≡ linePlace call n kind sort ⌝ }
+fn line_place(call: u64, n: u64, kind: u64, figure: u64) -> usize
+    ensures { λ r. ⌜ r ≡ linePlace call n kind figure ⌝ }
 {
     let seventh = pick(call == 7, many_place(n, kind), 1);
     let sixth = pick(call == 6, open_place(n), seventh);
     let fifth = pick(call == 5, write_place(n), sixth);
     let fourth = pick(call == 4, append_place(n), fifth);
     let third = pick(call == 3, action_place(n, kind), fourth);
-    let second = pick(call == 2, build_place(n, sort), third);
+    let second = pick(call == 2, build_place(n, figure), third);
     let first = pick(call == 1, shifted(n, 1, 5, 1, 1), second);
     pick(n == 0, 0, first)
 }

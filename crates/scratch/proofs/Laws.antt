@@ -1,13 +1,14 @@
--- Laws of products, roundings and running totals: what a test by division tells of a product, the two cases of a rounding,
--- how far a rounding goes, and where nothing stopped.
+-- Laws of products and roundings: what a test by division tells of a product, the two cases of a rounding, how far a rounding goes, and what
+-- is reported of it.
 use mathlib.Core.Path.{_≡_, refl, sym}
-use mathlib.Core.Bool.{Bool, true, false}
-use lib.Dec.{ltb}
-use borrow.Author.Tests.{lt-ltb, le-ltb, ltb-true, ltb-false}
+use mathlib.Core.Bool.{Bool, true, false, cond}
+use lib.Dec.{ltb, leb}
+use borrow.Author.Tests.{lt-ltb, le-ltb, ltb-true, ltb-false, le-leb, lt-leb, leb-true, leb-false}
 use Prim.Native.Nat.{ℕ, _+_, _-_, _*_, _/_, _%_, _^_, _≤_, _<_}
 use native.Mathlib.Nat.{mul-zero, le-div-iff-mul-le, div-lt-iff-lt-mul, div-eq-of-lt-le, div-add-mod', mod-lt, mul-mod-left}
 use native.Mathlib.Omega.{arith}
-use Rattle.scratch.specs.Scratch.{stopped, roundUp, addRounded}
+use Rattle.scratch.specs.declared.Rounding.the-variants as rounding
+use Rattle.scratch.specs.Scratch.{roundUp, upTo}
 
 -- ---- products
 
@@ -56,20 +57,25 @@ module _ (n a : ℕ) (h : 1 ≤ a) where
 pub round-multiple : (n a : ℕ) → roundUp n a % a ≡ 0
 round-multiple n a = mul-mod-left ((n + (a - 1)) / a) a
 
--- ---- stopping
+-- ---- what is reported, by any limit
 
-pub stopped-le : (n : ℕ) → stopped n ≤ n
-stopped-le n = omega arith
+module _ (limit n : ℕ) where
+  pub up-to : n ≤ limit → rounding.Rounded n ≡ upTo limit n
+  up-to h = rw (le-leb n limit h)
 
-pub stopped-fits : (n : ℕ) → n < 2 ^ 64 → stopped n ≡ n
-stopped-fits n h = omega arith
+  pub past : limit < n → rounding.Passed ≡ upTo limit n
+  past h = rw (lt-leb n limit h)
 
--- ---- running totals
+  pub told-up-to : (k : ℕ) → rounding.Rounded k ≡ upTo limit n → (k ≡ n) × (n ≤ limit)
+  told-up-to k e = go (leb n limit) refl e
+    where
+      go : (t : Bool) → leb n limit ≡ t → rounding.Rounded k ≡ cond t (rounding.Rounded n) rounding.Passed → (k ≡ n) × (n ≤ limit)
+      go true q f = let same : k ≡ n = cc in (same, leb-true n limit q)
+      go false q f = let z : _≡_ {A = ℕ} 0 1 = cc in absurd (omega arith)
 
-module _ (total size alignment : ℕ) where
-  pub total-grows : total < 2 ^ 64 → total ≤ addRounded total size alignment
-  total-grows h = omega arith
-
-  -- below 2^64 - 1 nothing stopped
-  pub total-exact : addRounded total size alignment < 2 ^ 64 - 1 → addRounded total size alignment ≡ total + roundUp size alignment
-  total-exact h = omega arith
+  pub told-past : rounding.Passed ≡ upTo limit n → limit < n
+  told-past e = go (leb n limit) refl e
+    where
+      go : (t : Bool) → leb n limit ≡ t → rounding.Passed ≡ cond t (rounding.Rounded n) rounding.Passed → limit < n
+      go true q f = let z : _≡_ {A = ℕ} 0 1 = cc in absurd (omega arith)
+      go false q f = leb-false n limit q

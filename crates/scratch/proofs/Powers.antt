@@ -10,7 +10,9 @@ use lib.Count.{leading-top}
 use lib.Dec.{ltb, eqb}
 use lib.Pow.{pow-pos, pow-mono, pow-add, shr-mod}
 use borrow.Author.Tests.{ltb-true, ltb-false, eqb-true, eq-eqb}
-use Rattle.scratch.specs.Scratch.{stopped, roundUp, PowerOfTwo, powerBelow, powerOfTwo}
+use Rattle.scratch.specs.declared.Rounding.the-variants as rounding
+use Rattle.scratch.specs.Scratch.{roundUp, reported, PowerOfTwo, powerBelow, powerOfTwo}
+use Rattle.scratch.proofs.Laws.{up-to}
 
 -- ---- the sentence, and trying each
 
@@ -122,8 +124,11 @@ module _ (a : ℕ) (h : a < 2 ^ 64) (e : powerOfTwo a ≡ true) where
   cleared : (n : ℕ) → n + (a - 1) < 2 ^ 64 → bitAnd (n + (a - 1)) ((2 ^ 64 - 1) - (a - 1)) ≡ roundUp n a
   cleared n l = rw (power .1) (masked (n + (2 ^ (power .0) - 1)) (power .0) exponent-small (rw (← (power .1)) l))
 
-  pub round-masked : (n m : ℕ) → m ≡ a - 1 → n + (a - 1) < 2 ^ 64 → bitAnd (n + (a - 1)) ((2 ^ 64 - 1) - m) ≡ stopped (roundUp n a)
-  round-masked n m e l = rw e (omega (arith, cleared n l, and-le-l (n + (a - 1)) ((2 ^ 64 - 1) - (a - 1))))
+  pub round-masked :
+      (n m : ℕ) → m ≡ a - 1 → n + (a - 1) < 2 ^ 64 → rounding.Rounded (bitAnd (n + (a - 1)) ((2 ^ 64 - 1) - m)) ≡ reported (roundUp n a)
+  round-masked n m e l =
+      let left = bitAnd (n + (a - 1)) ((2 ^ 64 - 1) - (a - 1)) in
+      rw e (up-to (2 ^ 64 - 1) left (omega (arith, and-le-l (n + (a - 1)) ((2 ^ 64 - 1) - (a - 1)))) ∙ ap reported (cleared n l))
 
   -- a sum past 2^64 - 1 rounds past it
   pub round-past : (n : ℕ) → 2 ^ 64 ≤ n + (a - 1) → 2 ^ 64 ≤ roundUp n a

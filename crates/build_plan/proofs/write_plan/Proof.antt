@@ -5,10 +5,10 @@ use Rattle.build_plan.proofs.write_plan.Statement.{statement}
 use Rattle.build_plan.proofs.write_plan.Tie as tie
 
 write-blas-offsets-requires : tie.Need-write-blas-offsets-requires
-write-blas-offsets-requires c κs = (c .before .before .before .before .before .before .before .before .before .before .before .before .before .before .pre .0 .aligned, rw offsets-length at (c .before .before .before .before .before .before .before .before .before .before .before .before .before .before .pre .1 .blas-offsets), c .before .before .before .before .before .before .before .before .before .before .before .before .before .before .pre .0 .entry-blases)
+write-blas-offsets-requires c κs = ((c .before .before .before .before .before .before .before .before .before .before .before .before .before .before .pre .0 .aligned, rw offsets-length at (c .before .before .before .before .before .before .before .before .before .before .before .before .before .before .pre .1 .blas-offsets), c .before .before .before .before .before .before .before .before .before .before .before .before .before .before .pre .0 .entry-blases), c .before .before .before .before .before .before .before .before .before .before .before .before .before .before .pre .0 .blas-below)
 
 write-tlas-offsets-requires : tie.Need-write-tlas-offsets-requires
-write-tlas-offsets-requires c κs = (c .before .before .before .before .before .before .before .before .before .before .before .before .before .before .before .before .before .before .pre .0 .aligned, rw offsets-length at (c .before .before .before .before .before .before .before .before .before .before .before .before .before .before .before .before .before .before .pre .1 .tlas-offsets), c .before .before .before .before .before .before .before .before .before .before .before .before .before .before .before .before .before .before .pre .0 .package-tlases)
+write-tlas-offsets-requires c κs = ((c .before .before .before .before .before .before .before .before .before .before .before .before .before .before .before .before .before .before .pre .0 .aligned, rw offsets-length at (c .before .before .before .before .before .before .before .before .before .before .before .before .before .before .before .before .before .before .pre .1 .tlas-offsets), c .before .before .before .before .before .before .before .before .before .before .before .before .before .before .before .before .before .before .pre .0 .package-tlases), c .before .before .before .before .before .before .before .before .before .before .before .before .before .before .before .before .before .before .pre .0 .tlas-below)
 
 write-staging-ranges-requires : tie.Need-write-staging-ranges-requires
 write-staging-ranges-requires c κs = (c .before .before .before .before .before .before .before .before .before .before .before .before .before .before .before .before .before .before .before .before .before .before .pre .0 .slots-drawn, rw staging-length at (c .before .before .before .before .before .before .before .before .before .before .before .before .before .before .before .before .before .before .before .before .before .before .pre .1 .staging-ranges))

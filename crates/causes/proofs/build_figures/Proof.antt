@@ -1,5 +1,8 @@
 -- `causes::build_figures` meets its contract: in each arm the value is the arm's case, and the figures are what the call makes.
 -- Assumes nothing.
+use Prim.Native.Nat.{ℕ}
+use mathlib.Core.Path.{ap, _∙_}
+use Rattle.ray_tracing.specs.Causes.{cause}
 use borrow.Author.Needs.{needs}
 use Rattle.causes.proofs.build_figures.Statement.{statement}
 use Rattle.causes.proofs.build_figures.Tie as tie
@@ -95,13 +98,15 @@ returns-30 : tie.Need-returns-30
 returns-30 c = rw (c .before .before .e15 .given .1) (c .with-figures29 .ensures)
 
 returns-31 : tie.Need-returns-31
-returns-31 c = rw (c .before .enum-told16 .given .1) (c .with-figures30 .ensures)
+returns-31 c =
+    rw (c .before .before .before .e16 .given .1)
+    (c .with-figures30 .ensures ∙ ap (λ (n : ℕ). cause 37 n 0 0) (c .before .running-total .ensures))
 
 returns-32 : tie.Need-returns-32
-returns-32 c = rw (c .before .enum-told17 .given .1) (c .with-figures31 .ensures)
+returns-32 c = rw (c .before .enum-told16 .given .1) (c .with-figures31 .ensures)
 
 returns-33 : tie.Need-returns-33
-returns-33 c = rw (c .before .enum-told18 .given .1) (c .with-figures32 .ensures)
+returns-33 c = rw (c .before .enum-told17 .given .1) (c .with-figures32 .ensures)
 
 pub build-figures-spec : {M : Type 1} → statement M
 build-figures-spec =
@@ -184,6 +189,7 @@ build-figures-spec =
     (λ c. search needs)
     (λ c κs. search needs)
     (λ c. search needs)
+    (λ c κs. search needs)
     (λ c κs. search needs)
     (λ c. search needs)
     (λ c κs. search needs)

@@ -1,0 +1,37 @@
+-- What the scratch of a build comes to. Assumes nothing.
+use Prim.Native.Nat.{ℕ, _-_, _^_}
+use mathlib.Core.List.{List, []}
+use Rattle.scratch.specs.declared.Rounding.{Rounding}
+use Rattle.scratch.specs.Scratch.{upTo}
+use Rattle.ray_tracing.specs.declared.BuildAccelerationStructureError.the-variants as build
+use Rattle.ray_tracing.specs.Causes.{Cause, buildCause}
+use Rattle.ray_tracing.specs.Plan.{Tables, tablesOf, Verdict, passed, refused, scratchSize, judgeScratch}
+use Rattle.build_final.specs.declared.ScratchSize.{ScratchSize}
+use Rattle.build_final.specs.declared.ScratchSize.the-variants as scratch-size
+
+-- a total, unless it reaches 2^64 - 1 or would pass it
+abbrev pub belowTop : ℕ → Rounding
+belowTop n = upTo (2 ^ 64 - 2) n
+
+-- what a running total reads
+abbrev pub ofEntriesAt : ℕ → List ℕ → List ℕ → Tables
+ofEntriesAt alignment blases entries = tablesOf alignment [] blases [] [] entries [] [] []
+
+abbrev pub ofPackagesAt : ℕ → List ℕ → List ℕ → Tables
+ofPackagesAt alignment tlases packages = tablesOf alignment [] [] [] tlases [] [] packages []
+
+-- the size, or the refusal with E
+pub data Sized : Type 0 where
+  sized : ℕ → Sized
+  reached : ℕ → ℕ → Cause → Sized
+
+abbrev pub sizedOf : ScratchSize → Sized
+sizedOf (scratch-size.Size n) = sized n
+sizedOf (scratch-size.Reached t i) = reached i 0 (buildCause (build.OutOfMemory t))
+
+abbrev pub sizedUnless : Verdict → ℕ → Sized
+sizedUnless passed n = sized n
+sizedUnless (refused e f c) n = reached e f c
+
+unfoldable pub scratchOf : Tables → Sized
+scratchOf x = sizedUnless (judgeScratch x) (scratchSize x)
