@@ -432,7 +432,7 @@ fn rounding_row(name: &str, what: &str, raw: &Raw) -> Rounding {
     Rounding { name: name.into(), what: what.into(), roundings: 2 * (raw.count(ENTRIES) + raw.count(PACKAGES)), mask, division }
 }
 
-/// Nanoseconds of a build that is refused by 37 and names the entry, and of the hunt for that entry without its name.
+/// Nanoseconds of a build that is refused by 37 and names the entry, and of a hunt for that entry without its name.
 struct Hunt {
     name: String,
     what: String,
@@ -442,7 +442,7 @@ struct Hunt {
 }
 
 /// 64 entries of 2^58 bytes each: none stands out, and with the last the running total would be 2^64.
-fn hunted() -> Hunt {
+fn hunted() -> [Hunt; 2] {
     let shape = only_entries(64);
     let mut raw = tables(&shape);
     for i in 0..shape.blases {
@@ -458,23 +458,47 @@ fn hunted() -> Hunt {
         lent[GEOMETRIES] = &lent[GEOMETRIES][..n * shape.geometries / shape.entries * SIZES[GEOMETRIES]];
         lent
     };
-    let hunt = || (1..=shape.entries).find(|&n| build(first(n)).number == 37);
+    let builds = std::cell::Cell::new(0);
+    let refused = |n| {
+        builds.set(builds.get() + 1);
+        build(first(n)).number == 37
+    };
+    let one_by_one = || (1..=shape.entries).find(|&n| refused(n));
+    let by_halves = || {
+        let (mut accepted, mut over) = (0, shape.entries);
+        while accepted + 1 < over {
+            let n = (accepted + over) / 2;
+            if refused(n) { over = n } else { accepted = n }
+        }
+        Some(over)
+    };
     let a = build(lent);
     assert_eq!((a.number, a.e, a.figures), (37, [63, 0], [1, 0, 0]));
-    let builds = hunt().unwrap();
-    assert_eq!(builds as u64, a.e[0] + 1);
-    let [ours, hunt] = times(
+    let count = |hunt: &dyn Fn() -> Option<usize>| {
+        builds.set(0);
+        assert_eq!(hunt(), Some(64));
+        builds.get()
+    };
+    let counts = [count(&one_by_one), count(&by_halves)];
+    let [ours, line, halves] = times(
         [
             &mut || {
                 black_box(build(lent));
             },
             &mut || {
-                black_box(hunt());
+                black_box(one_by_one());
+            },
+            &mut || {
+                black_box(by_halves());
             },
         ],
         &mut || {},
     );
-    Hunt { name: "scratch-64".into(), what: "a refused build of 64 entries that names the entry (37)".into(), builds, ours, hunt }
+    let hunt = |name: &str, what: &str, builds, hunt| Hunt { name: name.into(), what: what.into(), builds, ours, hunt };
+    [
+        hunt("scratch-64", "a refused build of 64 entries that names the entry (37), against one more entry at a time", counts[0], line),
+        hunt("scratch-64-halves", "against halves, once that build is refused", counts[1], halves),
+    ]
 }
 
 fn build_row(name: &str, what: &str, shape: &Shape) -> Row {
@@ -687,7 +711,7 @@ fn main() {
         rounding_row("round-bare", "the same without geometries and slots", &bare(0)),
         rounding_row("round-bare-large", "and with sizes above 2^33", &bare(1 << 33)),
     ];
-    let hunts = [hunted()];
+    let hunts = hunted();
     let growth: Vec<Row> = [1, 4, 16, 64]
         .map(|n| build_row(&format!("entries-{n}"), &format!("{n} entries, {} geometries", 4 * n), &only_entries(n)))
         .into_iter()
@@ -770,8 +794,8 @@ fn main() {
          difference of the two.\n\n\
          | What | roundings | to 256 | to 255 | ratio | more, each |\n|---|---|---|---|---|---|\n{rounding}\n\
          The entry at which scratch reaches 2^64 - 1, here the last: named by the one refused build, against the hunt that there is without \
-         its name, by builds of the first entry, the first two, and so on with their geometries until one is refused by 37. The ratio is \
-         hunt / ours.\n\n\
+         its name, by builds of the first entries alone with their geometries: one, two, and so on until one is refused by 37, or by halves. The \
+         ratio is hunt / ours.\n\n\
          | What | one build | hunt | its builds | ratio |\n|---|---|---|---|---|\n{hunting}\n\
          The program `zakvind` on a full sheet, from its start to its end: {program}.\n\n\
          ## How it grows\n\n\

@@ -2,7 +2,7 @@
 use Prim.Native.Nat.{ℕ, _-_, _^_}
 use mathlib.Core.List.{List, []}
 use Rattle.scratch.specs.declared.Rounding.{Rounding}
-use Rattle.scratch.specs.Scratch.{upTo}
+use Rattle.scratch.specs.Scratch.{orPassed}
 use Rattle.ray_tracing.specs.declared.BuildAccelerationStructureError.the-variants as build
 use Rattle.ray_tracing.specs.Causes.{Cause, buildCause}
 use Rattle.ray_tracing.specs.Plan.{Tables, tablesOf, Verdict, passed, refused, scratchSize, judgeScratch}
@@ -11,7 +11,7 @@ use Rattle.build_final.specs.declared.ScratchSize.the-variants as scratc
 
 -- a total, unless it reaches 2^64 - 1 or would pass it
 abbrev pub belowTop : ℕ → Rounding
-belowTop n = upTo (2 ^ 64 - 2) n
+belowTop n = orPassed (2 ^ 64 - 2) n
 
 -- what a running total reads
 abbrev pub ofEntriesAt : ℕ → List ℕ → List ℕ → Tables

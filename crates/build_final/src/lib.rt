@@ -24,7 +24,7 @@ ghost use Rattle.ray_tracing.specs.Layout.{size};
 ghost use Rattle.ray_tracing.specs.Causes.{cause, bare};
 ghost use Rattle.scratch.specs.Scratch.{addRounded};
 ghost use Rattle.ray_tracing.specs.Plan.{tablesOf, packageOf, entryOf, blasTotal, tlasTotal, blasReached, tlasReached};
-ghost use Rattle.ray_tracing.specs.Plan.{refused, on, _or_, firstOf, tlasDestroyed, blasBuildable};
+ghost use Rattle.ray_tracing.specs.Plan.{refused, on, _or_, firstOf, tlasDestroyed, blasBuildable, judgeStates};
 ghost use Rattle.ray_tracing.specs.Code.{verdictOf};
 ghost use Rattle.build_final.specs.Sized.{belowTop, ofEntriesAt, ofPackagesAt, sizedOf, sizedUnless, scratchOf};
 ghost use Rattle.ray_tracing.specs.Parts.{forPackages, forEntries, entriesIn, packagesIn, PackagesNamed, EntriesNamed};
@@ -226,18 +226,12 @@ fn blases_buildable(blases: &[u8], entries: &[u8]) -> Verdict
 }
 
 // Tlases destroyed, 21; per entry 21, 38.
-pub fn judge_final(blases: &[u8], tlases: &[u8], entries: &[u8], packages: &[u8]) -> Verdict
+pub fn judge_states(blases: &[u8], tlases: &[u8], entries: &[u8], packages: &[u8]) -> Verdict
     requires { ⌜ EntriesNamed (now blases) (now entries) × PackagesNamed (now tlases) (now packages) ⌝ }
     ensures { λ r. ⌜
         verdictOf r
-        ≡ (firstOf
-        (tlasDestroyed (forPackages [] (now (tlases .entry)) (now (packages .entry)) []))
-        0
-        (packagesIn (now (packages .entry)))
-        or firstOf
-        (blasBuildable (forEntries [] (now (blases .entry)) [] (now (entries .entry)) []))
-        0
-        (entriesIn (now (entries .entry))))
+        ≡ judgeStates
+        (tablesOf 0 [] (now (blases .entry)) [] (now (tlases .entry)) (now (entries .entry)) [] (now (packages .entry)) [])
         ⌝ }
 {
     let v = tlases_destroyed(tlases, packages);

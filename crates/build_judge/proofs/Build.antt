@@ -9,7 +9,7 @@ use lib.Dec.{eqb}
 use borrow.Author.Tests.{eq-eqb, ne-eqb}
 use Rattle.ray_tracing.specs.Causes.{Cause}
 use Rattle.ray_tracing.specs.Layout.{size}
-use Rattle.ray_tracing.specs.Plan.{Tables, Verdict, passed, refused, _or_, firstOf, judgeTables, judgeIds, judgeEntries, judgePackages, scratchSize, judgeScratch, tlasDestroyed, blasBuildable, judgeFinal, tablesOf}
+use Rattle.ray_tracing.specs.Plan.{Tables, Verdict, passed, refused, _or_, judgeTables, judgeIds, judgeEntries, judgePackages, scratchSize, judgeScratch, judgeStates, judgeFinal, tablesOf}
 use Rattle.ray_tracing.proofs.Verdicts.{or-passed, refused-not-passed}
 use Rattle.ray_tracing.proofs.Running.{refused-size}
 use Rattle.ray_tracing.proofs.Inside.{drawnBefore, slotsBefore, Inside, inside, tables-drawn, tables-slots}
@@ -102,13 +102,7 @@ module _ (x : Tables) where
   unfolding scratchOf judgeScratch scratchSize
   scratch-part = refl
 
-  -- the final checks, past the scratch
-  abbrev finalPart : Verdict
-  finalPart =
-      firstOf (tlasDestroyed (forPackages [] (x .tlases) (x .packages) [])) 0 (packagesIn (x .packages))
-      or firstOf (blasBuildable (forEntries [] (x .blases) [] (x .entries) [])) 0 (entriesIn (x .entries))
-
-  final-part : judgeScratch x ≡ passed → finalPart ≡ judgeFinal x
+  final-part : judgeScratch x ≡ passed → judgeStates x ≡ judgeFinal x
   unfolding judgeFinal
   final-part h = rw h
 
@@ -120,22 +114,22 @@ module _ (x : Tables) where
   unfolding judgeBuild
   build-refused e f c h = rw h
 
-  -- the size, then the final checks
-  pub size-nothing : {n : ℕ} → n ≡ 0 → to-record-nothing ≡ judgeSize n (x .blases) (x .tlases) (x .entries) (x .packages)
+  -- the size, then the rest
+  pub size-nothing : {n : ℕ} → n ≡ 0 → to-record-nothing ≡ judgeSize n x
   size-nothing {n} e = rw (eq-eqb n 0 e)
 
-  module _ {n : ℕ} (z : n ≡ 0 → ⊥) {v : Verdict} (l : v ≡ finalPart) where
-    pub size-to-record : v ≡ passed → to-record n ≡ judgeSize n (x .blases) (x .tlases) (x .entries) (x .packages)
+  module _ {n : ℕ} (z : n ≡ 0 → ⊥) {v : Verdict} (l : v ≡ judgeStates x) where
+    pub size-to-record : v ≡ passed → to-record n ≡ judgeSize n x
     size-to-record q = rw (ne-eqb n 0 z, sym l ∙ q)
 
-    pub size-refused : (e f : ℕ) (c : Cause) → v ≡ refused e f c → to-refuse e f c ≡ judgeSize n (x .blases) (x .tlases) (x .entries) (x .packages)
+    pub size-refused : (e f : ℕ) (c : Cause) → v ≡ refused e f c → to-refuse e f c ≡ judgeSize n x
     size-refused e f c q = rw (ne-eqb n 0 z, sym l ∙ q)
 
   module _ (h : judgeToPackages x ≡ passed) {s : Sized} (p : s ≡ scratchOf scratchPart) where
     pub build-sized :
         {n : ℕ} {j : BuildJudged}
         → s ≡ sized n
-        → j ≡ judgeSize n (x .blases) (x .tlases) (x .entries) (x .packages)
+        → j ≡ judgeSize n scratchPart
         → j ≡ judgeBuild x
     unfolding judgeBuild
     build-sized {n} e q =

@@ -1,7 +1,6 @@
 -- The judging of a build, up to where only room is left to judge. Assumes nothing.
 use Prim.Native.Nat.{ℕ}
 use mathlib.Core.Bool.{cond}
-use mathlib.Core.List.{List, []}
 use lib.Dec.{eqb}
 use Rattle.ray_tracing.specs.Causes.{Cause, buildCause}
 use Rattle.ray_tracing.specs.Plan.{
@@ -10,17 +9,14 @@ use Rattle.ray_tracing.specs.Plan.{
   passed,
   refused,
   _or_,
-  firstOf,
   judgeTables,
   judgeIds,
   judgeEntries,
   judgePackages,
-  tlasDestroyed,
-  blasBuildable,
+  judgeStates,
   judgeFinal,
   scratchSize,
 }
-use Rattle.ray_tracing.specs.Parts.{forPackages, forEntries, entriesIn, packagesIn}
 use Rattle.build_judge.specs.declared.Judgement.{Judgement}
 use Rattle.build_judge.specs.declared.Judgement.the-variants as judgement
 
@@ -43,14 +39,9 @@ judgedUnless (refused e f c) j = to-refuse e f c
 unfoldable pub judgeToPackages : Tables → Verdict
 judgeToPackages x = judgeTables x or judgeIds x or judgeEntries x or judgePackages x
 
--- "Larger total 0: accepted, nothing recorded": with a scratch size that is not refused, the final checks only where there is any
-abbrev pub judgeSize : ℕ → List ℕ → List ℕ → List ℕ → List ℕ → BuildJudged
-judgeSize n blases tlases entries packages =
-    cond (eqb n 0) to-record-nothing
-    (judgedUnless
-    (firstOf (tlasDestroyed (forPackages [] tlases packages [])) 0 (packagesIn packages)
-    or firstOf (blasBuildable (forEntries [] blases [] entries [])) 0 (entriesIn entries))
-    (to-record n))
+-- "Larger total 0: accepted, nothing recorded": with a scratch size that is not refused, the rest only where there is any
+abbrev pub judgeSize : ℕ → Tables → BuildJudged
+judgeSize n x = cond (eqb n 0) to-record-nothing (judgedUnless (judgeStates x) (to-record n))
 
 -- what comes after the packages is not judged then
 unfoldable pub judgeBuild : Tables → BuildJudged

@@ -1,7 +1,7 @@
 // Judging a build, in the paper's order: tables, ids, entries, packages, the scratch, the final checks. Nothing is written.
 use build_entries::judge_entries;
 use build_final::ScratchSize;
-use build_final::judge_final;
+use build_final::judge_states;
 use build_final::scratch_size;
 use build_ids::judge_ids;
 use build_packages::judge_packages;
@@ -10,6 +10,7 @@ use ray_tracing::BuildAccelerationStructureError;
 use ray_tracing::Verdict;
 use ray_tracing::first;
 ghost use mathlib.Core.Path.{_≡_};
+ghost use mathlib.Core.List.{[]};
 ghost use Rattle.ray_tracing.specs.Code.{verdictOf};
 ghost use Rattle.ray_tracing.specs.Plan.{tablesOf};
 ghost use Rattle.ray_tracing.specs.Parts.{PackagesNamed, EntriesNamed};
@@ -86,16 +87,13 @@ fn judge_size(size: u64, blases: &[u8], tlases: &[u8], entries: &[u8], packages:
         judgementOf r
         ≡ judgeSize
         size
-        (now (blases .entry))
-        (now (tlases .entry))
-        (now (entries .entry))
-        (now (packages .entry))
+        (tablesOf 0 [] (now (blases .entry)) [] (now (tlases .entry)) (now (entries .entry)) [] (now (packages .entry)) [])
         ⌝ }
 {
     if size == 0 {
         return Judgement::Nothing;
     }
-    let last = judge_final(blases, tlases, entries, packages);
+    let last = judge_states(blases, tlases, entries, packages);
     match last {
         Verdict::Passed => Judgement::ToRecord(size),
         Verdict::Refused(e, i, j) => Judgement::Refused(e, i, j),

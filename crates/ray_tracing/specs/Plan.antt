@@ -295,7 +295,7 @@ tlasReached x = firstOf (reachedAt (tlasScratch x) (x .alignment) 2) 0 (recordsI
 unfoldable pub judgeScratch : Tables → Verdict
 judgeScratch x = blasReached x or tlasReached x
 
--- "2^64 - 1: 37. Tlases destroyed: 21. Per entry: 21, 38."
+-- "Tlases destroyed: 21. Per entry: 21, 38."
 
 abbrev pub tlasDestroyed : Tables → ℕ → Verdict
 tlasDestroyed x p =
@@ -306,11 +306,12 @@ blasBuildable x i =
     on (eqb (blasOfEntry x i .destroyed) 1) (refused i 0 (cause 21 2 (entryOf x i .blas .0) 0))
     or on (eqb (blasOfEntry x i .«compacted_state») 3) (refused i 0 (bare 38))
 
+abbrev pub judgeStates : Tables → Verdict
+judgeStates x = firstOf (tlasDestroyed x) 0 (recordsIn x 7) or firstOf (blasBuildable x) 0 (recordsIn x 5)
+
+-- "2^64 - 1: 37", before those
 unfoldable pub judgeFinal : Tables → Verdict
-judgeFinal x =
-    judgeScratch x
-    or firstOf (tlasDestroyed x) 0 (recordsIn x 7)
-    or firstOf (blasBuildable x) 0 (recordsIn x 5)
+judgeFinal x = judgeScratch x or judgeStates x
 
 -- The plan
 

@@ -8,7 +8,7 @@ use Prim.Native.Nat.{ℕ, _+_, _-_, _*_, _/_, _%_, _^_, _≤_, _<_}
 use native.Mathlib.Nat.{mul-zero, le-div-iff-mul-le, div-lt-iff-lt-mul, div-eq-of-lt-le, div-add-mod', mod-lt, mul-mod-left}
 use native.Mathlib.Omega.{arith}
 use Rattle.scratch.specs.declared.Rounding.the-variants as rounding
-use Rattle.scratch.specs.Scratch.{roundUp, upTo}
+use Rattle.scratch.specs.Scratch.{roundUp, orPassed}
 
 -- ---- products
 
@@ -60,20 +60,20 @@ round-multiple n a = mul-mod-left ((n + (a - 1)) / a) a
 -- ---- what is reported, by any limit
 
 module _ (limit n : ℕ) where
-  pub up-to : n ≤ limit → rounding.Rounded n ≡ upTo limit n
+  pub up-to : n ≤ limit → rounding.Rounded n ≡ orPassed limit n
   up-to h = rw (le-leb n limit h)
 
-  pub past : limit < n → rounding.Passed ≡ upTo limit n
+  pub past : limit < n → rounding.Passed ≡ orPassed limit n
   past h = rw (lt-leb n limit h)
 
-  pub told-up-to : (k : ℕ) → rounding.Rounded k ≡ upTo limit n → (k ≡ n) × (n ≤ limit)
+  pub told-up-to : (k : ℕ) → rounding.Rounded k ≡ orPassed limit n → (k ≡ n) × (n ≤ limit)
   told-up-to k e = go (leb n limit) refl e
     where
       go : (t : Bool) → leb n limit ≡ t → rounding.Rounded k ≡ cond t (rounding.Rounded n) rounding.Passed → (k ≡ n) × (n ≤ limit)
       go true q f = let same : k ≡ n = cc in (same, leb-true n limit q)
       go false q f = let z : _≡_ {A = ℕ} 0 1 = cc in absurd (omega arith)
 
-  pub told-past : rounding.Passed ≡ upTo limit n → limit < n
+  pub told-past : rounding.Passed ≡ orPassed limit n → limit < n
   told-past e = go (leb n limit) refl e
     where
       go : (t : Bool) → leb n limit ≡ t → rounding.Passed ≡ cond t (rounding.Rounded n) rounding.Passed → limit < n

@@ -15,12 +15,12 @@ abbrev pub roundUp : ℕ → ℕ → ℕ
 roundUp n a = (n + (a - 1)) / a * a
 
 -- n, or that it passed a limit
-abbrev pub upTo : ℕ → ℕ → Rounding
-upTo limit n = cond (leb n limit) (rounding.Rounded n) rounding.Passed
+abbrev pub orPassed : ℕ → ℕ → Rounding
+orPassed limit n = cond (leb n limit) (rounding.Rounded n) rounding.Passed
 
 -- "The rounding should report that it passed 2^64 - 1 instead of stopping there, its callers pass that on"
 abbrev pub reported : ℕ → Rounding
-reported n = upTo (2 ^ 64 - 1) n
+reported n = orPassed (2 ^ 64 - 1) n
 
 -- "each size rounded up to the alignment", and added to a running total
 abbrev pub addRounded : ℕ → ℕ → ℕ → ℕ
