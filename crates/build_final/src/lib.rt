@@ -29,6 +29,8 @@ ghost use Rattle.ray_tracing.specs.Code.{verdictOf};
 ghost use Rattle.build_final.specs.Sized.{belowTop, ofEntriesAt, ofPackagesAt, sizedOf, sizedUnless, scratchOf};
 ghost use Rattle.ray_tracing.specs.Parts.{forPackages, forEntries, entriesIn, packagesIn, PackagesNamed, EntriesNamed};
 
+const MAX: u64 = 18446744073709551615;
+
 // What the scratch of a build comes to: its size; or the first entry or package at which its running total reaches 2^64 - 1 or would pass it.
 pub enum ScratchSize {
     Size(u64),
@@ -43,7 +45,7 @@ fn add_below(total: u64, size: u64, alignment: u64) -> Rounding
     let Rounding::Rounded(sum) = add_rounded(total, size, alignment) else {
         return Rounding::Passed;
     };
-    if sum == 18446744073709551615 {
+    if sum == MAX {
         return Rounding::Passed;
     }
     Rounding::Rounded(sum)

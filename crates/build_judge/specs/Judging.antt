@@ -39,11 +39,11 @@ judgedUnless (refused e f c) j = to-refuse e f c
 unfoldable pub judgeToPackages : Tables → Verdict
 judgeToPackages x = judgeTables x or judgeIds x or judgeEntries x or judgePackages x
 
--- "Larger total 0: accepted, nothing recorded": with a scratch size that is not refused, the rest only where there is any
+-- a scratch size that is not refused: nothing to record where it is 0, and else what is judged last
 abbrev pub judgeSize : ℕ → Tables → BuildJudged
 judgeSize n x = cond (eqb n 0) to-record-nothing (judgedUnless (judgeStates x) (to-record n))
 
--- what comes after the packages is not judged then
+-- "Larger total 0: accepted, nothing recorded": what comes after the packages is not judged then
 unfoldable pub judgeBuild : Tables → BuildJudged
 judgeBuild x =
     judgedUnless (judgeToPackages x)
