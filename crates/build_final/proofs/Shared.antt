@@ -3,7 +3,7 @@ use Prim.Native.Nat.{ℕ, max}
 use native.Mathlib.Omega.{arith}
 use mathlib.Core.Path.{_≡_, refl, sym, ap, _∙_}
 use Rattle.ray_tracing.specs.Causes.{Cause}
-use Rattle.ray_tracing.specs.Plan.{Tables, Verdict, passed, refused, _or_, blasTotal, tlasTotal, scratchSize, blasReached, tlasReached, judgeScratch}
+use Rattle.ray_tracing.specs.Plan.{Tables, Verdict, passed, refused, blasTotal, tlasTotal, scratchSize, blasReached, tlasReached, judgeScratch}
 use Rattle.build_final.specs.Sized.{Sized, sized, reached, sizedUnless, scratchOf}
 
 pub told-reached : (v : Verdict) (n e f : ℕ) (c : Cause) → sizedUnless v n ≡ reached e f c → v ≡ refused e f c

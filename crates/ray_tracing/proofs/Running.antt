@@ -7,9 +7,8 @@ use native.Mathlib.Numerals.{add-one}
 use native.Mathlib.Omega.{arith}
 use lib.Dec.{leb, ltb}
 use borrow.Author.Tests.{leb-true, leb-false, ltb-true, ltb-false}
-use Rattle.ray_tracing.specs.Layout.{size}
 use Rattle.ray_tracing.specs.Causes.{Cause, cause}
-use Rattle.ray_tracing.specs.Plan.{Tables, Verdict, passed, refused, on, _or_, firstOf, recordsIn, totalFrom, blasScratch, tlasScratch, blasTotal, tlasTotal, scratchSize, reachedAt, blasReached, tlasReached, judgeScratch}
+use Rattle.ray_tracing.specs.Plan.{Tables, Verdict, passed, refused, on, _or_, firstOf, recordsIn, totalFrom, blasScratch, tlasScratch, blasTotal, tlasTotal, scratchSize, reachedAt, judgeScratch}
 use Rattle.ray_tracing.proofs.Verdicts.{refused-not-passed}
 use Rattle.ray_tracing.proofs.Stretches.{total-none, total-upto}
 

@@ -5,14 +5,13 @@ use mathlib.Core.Bool.{Bool, true, false, _||_, cond}
 use mathlib.Core.List.{List, [], _∷_}
 use Prim.Native.Nat.{ℕ, zero, suc, _+_, _-_, _^_, _≤_, _<_, max}
 use native.Mathlib.Omega.{arith}
-use lib.Dec.{eqb, leb, ltb}
+use lib.Dec.{eqb, ltb}
 use lib.ListN.{length}
-use borrow.Author.Tests.{eqb-true, eqb-false, eq-eqb, ne-eqb, leb-true}
+use borrow.Author.Tests.{eqb-true, eqb-false, eq-eqb, ne-eqb}
 use Rattle.scratch.specs.Scratch.{stopped, roundUp, addRounded}
 use Rattle.ray_tracing.specs.declared.Written.{Written}
-use Rattle.ray_tracing.specs.Layout.{size}
-use Rattle.ray_tracing.specs.Causes.{Cause, cause, bare}
-use Rattle.ray_tracing.specs.Plan.{Tables, Verdict, passed, refused, on, _or_, firstOf, recordsIn, judgeTables, judgeIds, judgeEntries, judgePackages, totalFrom, offsetsFrom, blasScratch, tlasScratch, blasTotal, tlasTotal, scratchSize, reachedAt, blasReached, tlasReached, judgeScratch, tlasDestroyed, blasBuildable, judgeFinal, Outputs, planOf, short, tooShort, countsOf, Building, recorded, nothing-recorded, not-built, unless, build}
+use Rattle.ray_tracing.specs.Causes.{cause, bare}
+use Rattle.ray_tracing.specs.Plan.{Tables, Verdict, passed, refused, on, _or_, recordsIn, judgeTables, judgeIds, judgeEntries, judgePackages, totalFrom, offsetsFrom, blasScratch, tlasScratch, scratchSize, judgeScratch, judgeStates, judgeFinal, Outputs, planOf, short, tooShort, countsOf, Building, recorded, nothing-recorded, not-built, unless, build}
 use Rattle.ray_tracing.proofs.Plan.{offsets-length}
 use Rattle.ray_tracing.proofs.Running.{Judged, both-below, entry-named, package-named, first-over, scratch-judged, totals-below}
 use Rattle.ray_tracing.proofs.PlanLaws.{final-parts}
@@ -36,10 +35,7 @@ stoppedSize x =
     max (stoppedTotal (blasScratch x) (x .alignment) 0 0 (recordsIn x 5)) (stoppedTotal (tlasScratch x) (x .alignment) 0 0 (recordsIn x 7))
 
 abbrev pub stoppedFinal : Tables → Verdict
-stoppedFinal x =
-    on (eqb (stoppedSize x) (2 ^ 64 - 1)) (refused 0 0 (bare 37))
-    or firstOf (tlasDestroyed x) 0 (recordsIn x 7)
-    or firstOf (blasBuildable x) 0 (recordsIn x 5)
+stoppedFinal x = on (eqb (stoppedSize x) (2 ^ 64 - 1)) (refused 0 0 (bare 37)) or judgeStates x
 
 abbrev pub stoppedPlan : Tables → Outputs
 stoppedPlan x =
@@ -202,7 +198,7 @@ module _ (x : Tables) where
     as-before =
         same-answer (judgeTables x or judgeIds x or judgeEntries x or judgePackages x)
         (on (short (planOf x .«init_ranges») (o .«init_ranges»)) (refused 0 0 (bare 39)))
-        (firstOf (tlasDestroyed x) 0 (recordsIn x 7) or firstOf (blasBuildable x) 0 (recordsIn x 5))
+        (judgeStates x)
         (length (planOf x .«init_ranges»)) (stoppedSize x) (scratchSize x) (zero-same x)
         (ap (λ (b : Bool). on b (refused 0 0 (bare 39))) room-same)
         counts-same

@@ -6,7 +6,7 @@ use native.Mathlib.Nat.{zero-add, add-zero, not-suc-le-zero, le-of-suc-le-suc, a
 use native.Mathlib.Numerals.{add-one}
 use native.Mathlib.Omega.{arith}
 use lib.ListN.{getD}
-use Rattle.scratch.specs.Scratch.{roundUp, addRounded}
+use Rattle.scratch.specs.Scratch.{addRounded}
 use Rattle.scratch.proofs.Laws.{round-above}
 use Rattle.ray_tracing.specs.Plan.{totalFrom, offsetsFrom}
 

@@ -38,7 +38,6 @@ use Rattle.report_words.specs.Lines.{
   pastLines,
   lines,
   destroyedPlace,
-  reachedPlace,
   buildPlace,
   unbuiltPlace,
   actionPlace,

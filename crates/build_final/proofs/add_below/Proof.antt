@@ -1,6 +1,6 @@
 -- `build_final::add_below` meets its contract: what passed 2^64 - 1, and what is just that, is not below it.
 use borrow.Author.Needs.{needs}
-use Prim.Native.Nat.{ℕ, _-_, _^_}
+use Prim.Native.Nat.{_-_, _^_}
 use native.Mathlib.Omega.{arith}
 use mathlib.Core.Path.{sym, ap, _∙_}
 use Rattle.scratch.specs.declared.Rounding.the-variants as rounding
