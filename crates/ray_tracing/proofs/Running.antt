@@ -8,7 +8,7 @@ use native.Mathlib.Omega.{arith}
 use lib.Dec.{leb, ltb}
 use borrow.Author.Tests.{leb-true, leb-false, ltb-true, ltb-false}
 use Rattle.ray_tracing.specs.Causes.{Cause, cause}
-use Rattle.ray_tracing.specs.Plan.{Tables, Verdict, passed, refused, on, _or_, firstOf, recordsIn, totalFrom, blasScratch, tlasScratch, blasTotal, tlasTotal, scratchSize, reachedAt, judgeScratch}
+use Rattle.ray_tracing.specs.Plan.{Tables, Verdict, passed, refused, on, _or_, firstOf, recordsIn, totalFrom, blasScratch, tlasScratch, blasTotal, tlasTotal, scratchSize, reachedAt, tlasReached, judgeScratch}
 use Rattle.ray_tracing.proofs.Verdicts.{refused-not-passed}
 use Rattle.ray_tracing.proofs.Stretches.{total-none, total-upto}
 
@@ -97,9 +97,9 @@ module _ (x : Tables) where
       go (running (blasScratch x) (x .alignment) 1 (recordsIn x 5)) (running (tlasScratch x) (x .alignment) 2 (recordsIn x 7))
     where
       go : Running (blasScratch x) (x .alignment) 1 (recordsIn x 5) → Running (tlasScratch x) (x .alignment) 2 (recordsIn x 7) → Judged
-      go (reached e p h) t = entry-named e (rw p) h
-      go (below p h) (reached e q l) = package-named e (rw (p, q)) h l
-      go (below p h) (below q l) = both-below (rw (p, q)) h l
+      go (reached e p h) t = entry-named e (λ i. p i or tlasReached x) h
+      go (below p h) (reached e q l) = package-named e (λ i. p i or q i) h l
+      go (below p h) (below q l) = both-below (λ i. p i or q i) h l
 
   pub totals-below : judgeScratch x ≡ passed → (blasTotal x < 2 ^ 64 - 1) × (tlasTotal x < 2 ^ 64 - 1)
   totals-below h = go scratch-judged
