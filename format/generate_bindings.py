@@ -4,11 +4,27 @@ With --check nothing is written; a file that is not as it would be written is sa
 import pathlib
 import sys
 
-from layout import HEAD_SIZE, LIMITS, LONGEST, NONE, SECTIONS, single, size
+from layout import HEAD_SIZE, NONE, SECTIONS, VERSIONS, longest, sections, single, size
 
 ROOT = pathlib.Path(__file__).resolve().parent.parent
 WIDTH = 132  # of a line of Rust, as in rustfmt.toml
 MADE = "Made by format/generate_bindings.py from format/layout.py."
+
+
+def wide(s):
+    """The section as version 2 has it, by the name that it has beside version 1's, or nothing where both have the same."""
+    other = sections(2)[s.number - 1]
+    return other._replace(one=f"wide_{s.one}", name=f"wide_{s.name}") if other != s else None
+
+
+# each section, and behind it the one of version 2 where that is another
+RECORDS = [r for s in sections(1) for r in (s, wide(s)) if r]
+
+
+def of_version(r):
+    """What is said of a record that only one version has."""
+    s = SECTIONS[r.number - 1]
+    return f", of version {1 if r == s else 2}" if wide(s) else ""
 
 
 def code(field):
@@ -63,7 +79,7 @@ def c_constants():
 def c_record(s):
     name = f"zakvind_{s.one}"
     bytes_of = f"ZAKVIND_{s.one}_BYTES".upper()
-    yield f"/* Section {s.number}, {(s.title or s.name).lower()}. */"
+    yield f"/* Section {s.number}, {(s.title or SECTIONS[s.number - 1].name).lower()}{of_version(s)}. */"
     yield "typedef struct {"
     for f in s.fields:
         times = f"[{f.times}]" if f.times > 1 else ""
@@ -101,7 +117,7 @@ def c_record(s):
     yield "    return r;"
     yield "}"
     yield ""
-    yield f"/* A {s.one} of which nothing is said: all 0, but for what may not be 0, and no buffer where there may be none. */"
+    yield f"/* A {s.one.replace('_', ' ')} of which nothing is said: all 0, but for what may not be 0, and no buffer where there may be none. */"
     yield f"static inline {name} zakvind_{s.one}_default(void)"
     yield "{"
     yield f"    {name} r;"
@@ -127,11 +143,13 @@ def c_header():
     yield ""
     yield "/* Bytes of one record. */"
     yield "enum {"
-    for s in SECTIONS:
-        yield f"    ZAKVIND_{s.one}_BYTES".upper() + f" = {size(s.fields)},"
+    for s in RECORDS:
+        said = of_version(s)
+        yield f"    ZAKVIND_{s.one}_BYTES".upper() + f" = {size(s.fields)}," + (f" /* {said[2:]} */" if said else "")
     yield f"    ZAKVIND_INSTANCE_FIELDS_BYTES = {size(SECTIONS[7].fields) - 1}, /* a slot's after its present byte */"
     yield f"    ZAKVIND_HEAD_BYTES = {HEAD_SIZE},"
-    yield f"    ZAKVIND_LONGEST_SHEET = {LONGEST}"
+    yield f"    ZAKVIND_LONGEST_SHEET = {max(map(longest, VERSIONS))}, /* of either version */"
+    yield f"    ZAKVIND_LONGEST_VERSION_1 = {longest(1)}"
     yield "};"
     yield ""
     yield "/* The most records of a table. */"
@@ -182,7 +200,7 @@ def c_header():
     yield "    return value;"
     yield "}"
     yield ""
-    for s in SECTIONS:
+    for s in RECORDS:
         yield from c_record(s)
     yield "#endif"
 
@@ -222,43 +240,56 @@ def rust_layout():
     yield "//! values it may have."
     yield "use crate::format::{Allowed::*, KindOf, Section, Used::*, field};"
     yield ""
-    for s in SECTIONS:
-        yield f"/// Bytes of a record of section {s.number}, `{s.name}`."
+    for s in RECORDS:
+        name = SECTIONS[s.number - 1].name
+        yield f"/// Bytes of a record of section {s.number}, `{name}`{of_version(s)}."
         yield f"pub const {s.one.upper()}_BYTES: usize = {size(s.fields)};"
-        yield f"/// The most records of section {s.number}, `{s.name}`."
-        yield f"pub const MOST_{s.name.upper()}: usize = {s.most};"
-    yield "/// Bytes of the longest sheet."
-    yield f"pub const LONGEST_SHEET: usize = {LONGEST};"
+        if name == s.name:
+            yield f"/// The most records of section {s.number}, `{name}`."
+            yield f"pub const MOST_{name.upper()}: usize = {s.most};"
+    yield "/// Bytes of the longest sheet of either version."
+    yield f"pub const LONGEST_SHEET: usize = {max(map(longest, VERSIONS))};"
+    yield "/// Bytes of the longest sheet of version 1."
+    yield f"pub const LONGEST_VERSION_1: usize = {longest(1)};"
     yield "/// In a field that may have it: no buffer."
     yield f"pub const NO_BUFFER: u16 = {NONE};"
+    for s in RECORDS:
+        yield from rust_section(s)
+    for version in VERSIONS:
+        names = ", ".join((version == 2 and wide(s) or s).name.upper() for s in SECTIONS)
+        yield ""
+        yield f"/// Sections 1 to 9 of version {version}."
+        start, value = f"pub(crate) static SECTIONS_{version}: [Section; 9] =", f"[{names}];"
+        one_line = f"{start} {value}"
+        yield from [one_line] if len(one_line) <= WIDTH else [start, f"    {value}"]
+
+
+def rust_section(s):
+    name, one = SECTIONS[s.number - 1].name, SECTIONS[s.number - 1].one
     yield ""
-    yield "/// Sections 1 to 9."
-    yield "pub static SECTIONS: [Section; 9] = ["
-    for s in SECTIONS:
-        yield "    Section {"
-        yield f"        number: {s.number},"
-        yield f'        name: "{s.name}",'
-        yield f'        one: "{s.one}",'
-        yield f'        counted: "count of {s.name}",'
-        yield f"        most: MOST_{s.name.upper()},"
-        yield f"        bytes: {s.one.upper()}_BYTES,"
-        yield f"        drawn_by: {s.drawn_by},"
-        draws = [i for i, (f, _, _) in enumerate(single(s.fields)) if f.draws]
-        yield f"        draws: {f'Some({draws[0]})' if draws else 'None'},"
-        yield f"        kind: KindOf::{s.kind.capitalize() or 'Triangles'},"
-        fields = [
-            f'field("{name}", {at}, {f.width}, {rust_allowed(f)}, {rust_used(s, f)}, {f.id_of}, {str(f.none).lower()})'
-            for f, at, name in single(s.fields)
-        ]
-        one_line = "        fields: &[" + ", ".join(fields) + "],"
-        if len(one_line) <= WIDTH:
-            yield one_line
-        else:
-            yield "        fields: &["
-            yield from (f"            {f}," for f in fields)
-            yield "        ],"
-        yield "    },"
-    yield "];"
+    yield f"const {s.name.upper()}: Section = Section {{"
+    yield f"    number: {s.number},"
+    yield f'    name: "{name}",'
+    yield f'    one: "{one}",'
+    yield f'    counted: "count of {name}",'
+    yield f"    most: MOST_{name.upper()},"
+    yield f"    bytes: {s.one.upper()}_BYTES,"
+    yield f"    drawn_by: {s.drawn_by},"
+    draws = [i for i, (f, _, _) in enumerate(single(s.fields)) if f.draws]
+    yield f"    draws: {f'Some({draws[0]})' if draws else 'None'},"
+    yield f"    kind: KindOf::{s.kind.capitalize() or 'Triangles'},"
+    fields = [
+        f'field("{name}", {at}, {f.width}, {rust_allowed(f)}, {rust_used(s, f)}, {f.id_of}, {str(f.none).lower()})'
+        for f, at, name in single(s.fields)
+    ]
+    one_line = "    fields: &[" + ", ".join(fields) + "],"
+    if len(one_line) <= WIDTH:
+        yield one_line
+    else:
+        yield "    fields: &["
+        yield from (f"        {f}," for f in fields)
+        yield "    ],"
+    yield "};"
 
 
 FILES = {"include/zakvind_records.h": c_header, "bindings/rust/src/layout.rs": rust_layout}

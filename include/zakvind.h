@@ -17,7 +17,8 @@
  * instances in one call, and with 64 groups each inside the next (bindings/c/edges.c), nothing proves them.
  *
  * Tables are records end to end, little-endian, with the layout of the sheet's sections. zakvind_records.h packs and unpacks
- * each record, and has the bytes of one and the most of each.
+ * each record, and has the bytes of one and the most of each. A sheet is of version 1 or 2: in version 2 a geometry's `first` is a
+ * uint64_t, so that its record, zakvind_wide_geometry, has four bytes more; all else is the same.
  */
 #ifndef ZAKVIND_H
 #define ZAKVIND_H
@@ -31,7 +32,7 @@ extern "C" {
 /* The numbers of refusals. */
 enum {
     ZAKVIND_ACCEPTED = 0,
-    ZAKVIND_UNKNOWN_VERSION = 1,
+    ZAKVIND_UNKNOWN_VERSION = 1,                          /* neither 1 nor 2; of a converter also the version that it makes */
     ZAKVIND_TRUNCATED = 2,
     ZAKVIND_TRAILING_BYTES = 3,
     ZAKVIND_TOO_MANY = 4,
@@ -73,7 +74,8 @@ enum {
     ZAKVIND_USED_UNBUILT_TLAS = 43,                       /* Tlas */
     ZAKVIND_BLAS_NEWER_THAN_TLAS = 44,                    /* Blas, Tlas */
     ZAKVIND_INVALID_GROUP = 45,                           /* of groups: a count of 0, or a group that is not an earlier one */
-    ZAKVIND_TOO_MANY_SLOTS = 46                           /* of groups */
+    ZAKVIND_TOO_MANY_SLOTS = 46,                          /* of groups */
+    ZAKVIND_TOO_FAR = 47                                  /* of zakvind_to_version_1: a first vertex or primitive offset above 2^32 - 1 */
 };
 
 enum {
@@ -113,8 +115,9 @@ typedef struct {
 typedef struct {
     uint64_t number;
     uint64_t place; /* of the refused byte */
-    uint64_t version, alignment, counter;
-    zakvind_section sections[9]; /* sections 1 to 9 */
+    uint64_t version; /* 1 or 2 */
+    uint64_t alignment, counter;
+    zakvind_section sections[9]; /* sections 1 to 9; the records of 6 are wide in version 2 */
 } zakvind_sheet;
 
 typedef struct {
@@ -172,6 +175,53 @@ typedef struct {
 #define ZAKVIND_ROOM_COMPACTABLE(entries) (entries)
 #define ZAKVIND_ROOM_LISTS(entries, packages, slots) ((entries) + 2 * (packages) + (slots))
 
+/* The most that zakvind_to_version_2 needs for a sheet of so many bytes; zakvind_to_version_1 needs no more than the sheet has. */
+#define ZAKVIND_ROOM_VERSION_2(sheet_len) \
+    ((sheet_len) + ZAKVIND_MOST_GEOMETRIES * (ZAKVIND_WIDE_GEOMETRY_BYTES - ZAKVIND_GEOMETRY_BYTES))
+
+/* The room by whether the geometries are wide; zakvind_room_for and zakvind_room_for_wide are to be called. */
+static inline zakvind_room zakvind_room_by(
+    int wide,
+    const uint8_t *blases, size_t blases_len,
+    const uint8_t *entries, size_t entries_len,
+    const uint8_t *geometries, size_t geometries_len,
+    size_t packages_len,
+    const uint8_t *slots, size_t slots_len)
+{
+    const size_t geometry_bytes = wide ? ZAKVIND_WIDE_GEOMETRY_BYTES : ZAKVIND_GEOMETRY_BYTES;
+    const size_t blas_count = blases_len / ZAKVIND_BLAS_BYTES, entry_count = entries_len / ZAKVIND_ENTRY_BYTES;
+    const size_t geometry_count = geometries_len / geometry_bytes, slot_count = slots_len / ZAKVIND_SLOT_BYTES;
+    const size_t package_count = packages_len / ZAKVIND_PACKAGE_BYTES;
+    size_t ranges = 0, compactable = 0, present = 0, next = 0;
+    zakvind_room room;
+    for (size_t i = 0; i < entry_count; i++) {
+        const zakvind_entry e = zakvind_unpack_entry(entries + i * ZAKVIND_ENTRY_BYTES);
+        if (e.blas < blas_count) {
+            const zakvind_blas b = zakvind_unpack_blas(blases + (size_t)e.blas * ZAKVIND_BLAS_BYTES);
+            compactable += (size_t)((b.flags & ZAKVIND_FLAGS_ALLOW_COMPACTION) != 0);
+        }
+        for (size_t j = 0; j < e.geometry_count && next < geometry_count; j++, next++) {
+            const uint8_t *g = geometries + next * geometry_bytes;
+            const uint16_t index_buffer = wide ? zakvind_unpack_wide_geometry(g).index_buffer : zakvind_unpack_geometry(g).index_buffer;
+            const uint16_t transform_buffer =
+                wide ? zakvind_unpack_wide_geometry(g).transform_buffer : zakvind_unpack_geometry(g).transform_buffer;
+            ranges++;
+            if (e.kind == ZAKVIND_KIND_TRIANGLES)
+                ranges += (size_t)(index_buffer != ZAKVIND_NO_BUFFER) + (size_t)(transform_buffer != ZAKVIND_NO_BUFFER);
+        }
+    }
+    for (size_t i = 0; i < slot_count; i++)
+        present += (size_t)(slots[i * ZAKVIND_SLOT_BYTES] != 0);
+    room.blas_offsets = entry_count;
+    room.tlas_offsets = package_count;
+    room.staging_ranges = 2 * package_count;
+    room.instances = ZAKVIND_INSTANCE_BYTES * present;
+    room.init_ranges = 3 * ranges;
+    room.compactable = compactable;
+    room.lists = entry_count + 2 * package_count + present;
+    return room;
+}
+
 /* The room that a build of these tables needs: exactly what it writes if it is recorded. With nothing recorded it writes the
  * init_ranges alone, as many; refused, nothing. So with this room no build is refused by 39, and with one element less of any
  * output a recorded one is.
@@ -188,45 +238,43 @@ static inline zakvind_room zakvind_room_for(
     const uint8_t *packages, size_t packages_len,
     const uint8_t *slots, size_t slots_len)
 {
-    const size_t blas_count = blases_len / ZAKVIND_BLAS_BYTES, entry_count = entries_len / ZAKVIND_ENTRY_BYTES;
-    const size_t geometry_count = geometries_len / ZAKVIND_GEOMETRY_BYTES, slot_count = slots_len / ZAKVIND_SLOT_BYTES;
-    const size_t package_count = packages_len / ZAKVIND_PACKAGE_BYTES;
-    size_t ranges = 0, compactable = 0, present = 0, next = 0;
-    zakvind_room room;
     (void)packages;
-    for (size_t i = 0; i < entry_count; i++) {
-        const zakvind_entry e = zakvind_unpack_entry(entries + i * ZAKVIND_ENTRY_BYTES);
-        if (e.blas < blas_count) {
-            const zakvind_blas b = zakvind_unpack_blas(blases + (size_t)e.blas * ZAKVIND_BLAS_BYTES);
-            compactable += (size_t)((b.flags & ZAKVIND_FLAGS_ALLOW_COMPACTION) != 0);
-        }
-        for (size_t j = 0; j < e.geometry_count && next < geometry_count; j++, next++) {
-            const zakvind_geometry g = zakvind_unpack_geometry(geometries + next * ZAKVIND_GEOMETRY_BYTES);
-            ranges++;
-            if (e.kind == ZAKVIND_KIND_TRIANGLES)
-                ranges += (size_t)(g.index_buffer != ZAKVIND_NO_BUFFER) + (size_t)(g.transform_buffer != ZAKVIND_NO_BUFFER);
-        }
-    }
-    for (size_t i = 0; i < slot_count; i++)
-        present += (size_t)(slots[i * ZAKVIND_SLOT_BYTES] != 0);
-    room.blas_offsets = entry_count;
-    room.tlas_offsets = package_count;
-    room.staging_ranges = 2 * package_count;
-    room.instances = ZAKVIND_INSTANCE_BYTES * present;
-    room.init_ranges = 3 * ranges;
-    room.compactable = compactable;
-    room.lists = entry_count + 2 * package_count + present;
-    return room;
+    return zakvind_room_by(0, blases, blases_len, entries, entries_len, geometries, geometries_len, packages_len, slots, slots_len);
 }
 
-/* Reads a sheet: where its sections are, or the first refusal and its byte place. Refuses by 1 to 5. */
+/* The same of zakvind_build_wide. */
+static inline zakvind_room zakvind_room_for_wide(
+    const uint8_t *blases, size_t blases_len,
+    const uint8_t *entries, size_t entries_len,
+    const uint8_t *geometries, size_t geometries_len,
+    const uint8_t *packages, size_t packages_len,
+    const uint8_t *slots, size_t slots_len)
+{
+    (void)packages;
+    return zakvind_room_by(1, blases, blases_len, entries, entries_len, geometries, geometries_len, packages_len, slots, slots_len);
+}
+
+/* Reads a sheet of either version: where its sections are, or the first refusal and its byte place. Refuses by 1 to 5. */
 zakvind_sheet zakvind_read_sheet(const uint8_t *sheet, size_t sheet_len);
 
-/* Writes a sheet anew, as many bytes as it has: unused fields zero, declared geometries by Blas number and those of one Blas in
- * their order. What is written is read, and means the same; two sheets come to equal bytes exactly when they mean the same: as
- * read, unused fields aside, floats by their bits, each Blas's declared geometries in order. Refuses by 1 to 5 and 39, the
- * reader's numbers first and at its place, and then writes nothing; room for the sheet's own length is always enough. */
+/* Writes a sheet anew in its own version, as many bytes as it has: unused fields zero, declared geometries by Blas number and those of
+ * one Blas in their order. What is written is read, and means the same; two sheets come to equal bytes exactly when they mean the
+ * same: as read, version included, unused fields aside, floats by their bits, each Blas's declared geometries in order. Refuses by 1 to
+ * 5 and 39, the reader's numbers first and at its place, and then writes nothing; room for the sheet's own length is always enough. */
 zakvind_written zakvind_write_sheet(const uint8_t *sheet, size_t sheet_len, uint8_t *out, size_t out_len);
+
+/* Writes a sheet of version 1 as one of version 2: the version byte is 2 and each geometry's `first` has four bytes more; every other
+ * byte is as it was, in unused fields too. So zakvind_to_version_1 gives the same bytes back. Refuses by 1 to 5 and 39: by 1 at place 0
+ * where the version byte is not 1, then by the reader's numbers at its place, then by 39 where `out` is shorter than what is to be
+ * written; and then writes nothing. What is written has the sheet's length and four bytes for each geometry, at most 1,024 more:
+ * ZAKVIND_ROOM_VERSION_2(sheet_len) is always enough. */
+zakvind_written zakvind_to_version_2(const uint8_t *sheet, size_t sheet_len, uint8_t *out, size_t out_len);
+
+/* Writes a sheet of version 2 as one of version 1, the other way round; zakvind_to_version_2 gives the same bytes back. Refuses by 1 to
+ * 5, 39 and 47: by 1 at place 0 where the version byte is not 2, then by the reader's numbers at its place, then by 47 at the place, in
+ * the sheet that is read, of the first geometry's `first` that is above 2^32 - 1, then by 39; and then writes nothing. Room for the
+ * sheet's own length is always enough. */
+zakvind_written zakvind_to_version_1(const uint8_t *sheet, size_t sheet_len, uint8_t *out, size_t out_len);
 
 /* Opens groups of slots: a u16 group count, at most ZAKVIND_MOST_GROUPS, then for each group a u16 item count and its items. An item
  * is a byte 1 and a slot's fields after its present byte, which together are a present slot as zakvind_pack_slot packs it, or a byte 2
@@ -245,6 +293,27 @@ zakvind_opened zakvind_open_groups(const uint8_t *groups, size_t groups_len, uin
  * pass it, and if the Blas total stays below, with f0 2 at the first such package; by 39 with e and figures 0, see
  * zakvind_room_for. */
 zakvind_built zakvind_build(
+    uint32_t alignment,
+    const uint8_t *buffers, size_t buffers_len,
+    const uint8_t *blases, size_t blases_len,
+    const uint8_t *declared, size_t declared_len,
+    const uint8_t *tlases, size_t tlases_len,
+    const uint8_t *entries, size_t entries_len,
+    const uint8_t *geometries, size_t geometries_len,
+    const uint8_t *packages, size_t packages_len,
+    const uint8_t *slots, size_t slots_len,
+    uint64_t *blas_offsets, size_t blas_offsets_len,
+    uint64_t *tlas_offsets, size_t tlas_offsets_len,
+    uint64_t *staging_ranges, size_t staging_ranges_len,
+    uint8_t *instances, size_t instances_len,
+    uint64_t *init_ranges, size_t init_ranges_len,
+    uint16_t *compactable, size_t compactable_len,
+    uint16_t *lists, size_t lists_len);
+
+/* zakvind_build with wide geometries, ZAKVIND_WIDE_GEOMETRY_BYTES each; all else is lent and answered as there, and where every `first`
+ * is below 2^32, the same. Above, the same checks are made of whole numbers; of triangles a figure of 23 that would pass 2^64 - 1 stops
+ * there. Refuses by 4 to 6 and 10 to 39; see zakvind_room_for_wide. */
+zakvind_built zakvind_build_wide(
     uint32_t alignment,
     const uint8_t *buffers, size_t buffers_len,
     const uint8_t *blases, size_t blases_len,
@@ -312,13 +381,15 @@ zakvind_reported zakvind_explain(const uint8_t *sheet, size_t sheet_len, uint8_t
  * region 960, size 959"; number 0 gives "nothing is refused". What a call doesn't have is given as 0. Refuses by 39, and then
  * writes nothing; room for ZAKVIND_LONGEST_WORDS is always enough. */
 enum {
-    ZAKVIND_CALL_SHEET = 1,      /* e0 is the place */
-    ZAKVIND_CALL_BUILD = 2,
-    ZAKVIND_CALL_SUBMISSION = 3, /* e0 is the action, e1 its kind, 0 where that is not known */
+    ZAKVIND_CALL_SHEET = 1,        /* e0 is the place */
+    ZAKVIND_CALL_BUILD = 2,        /* of zakvind_build_wide too */
+    ZAKVIND_CALL_SUBMISSION = 3,   /* e0 is the action, e1 its kind, 0 where that is not known */
     ZAKVIND_CALL_APPEND = 4,
-    ZAKVIND_CALL_WRITE = 5,      /* e0 is the place */
-    ZAKVIND_CALL_GROUPS = 6,     /* e0 is the place; of 45 and 46 e0 is the group and e1 the item */
-    ZAKVIND_CALL_APPEND_MANY = 7 /* e1 is the position; of 6 it may be 0 for the Tlas too, and the words say so */
+    ZAKVIND_CALL_WRITE = 5,        /* e0 is the place */
+    ZAKVIND_CALL_GROUPS = 6,       /* e0 is the place; of 45 and 46 e0 is the group and e1 the item */
+    ZAKVIND_CALL_APPEND_MANY = 7,  /* e1 is the position; of 6 it may be 0 for the Tlas too, and the words say so */
+    ZAKVIND_CALL_TO_VERSION_2 = 8, /* e0 is the place */
+    ZAKVIND_CALL_TO_VERSION_1 = 9  /* e0 is the place */
 };
 zakvind_reported zakvind_words(
     uint64_t call, uint64_t number, uint64_t e0, uint64_t e1, uint64_t f0, uint64_t f1, uint64_t f2, uint8_t *out, size_t out_len);

@@ -16,13 +16,15 @@ enum {
     ZAKVIND_DECLARED_BYTES = 18,
     ZAKVIND_TLAS_BYTES = 22,
     ZAKVIND_ENTRY_BYTES = 5,
-    ZAKVIND_GEOMETRY_BYTES = 44,
+    ZAKVIND_GEOMETRY_BYTES = 44, /* of version 1 */
+    ZAKVIND_WIDE_GEOMETRY_BYTES = 48, /* of version 2 */
     ZAKVIND_PACKAGE_BYTES = 4,
     ZAKVIND_SLOT_BYTES = 56,
     ZAKVIND_ACTION_BYTES = 3,
     ZAKVIND_INSTANCE_FIELDS_BYTES = 55, /* a slot's after its present byte */
     ZAKVIND_HEAD_BYTES = 13,
-    ZAKVIND_LONGEST_SHEET = 56415
+    ZAKVIND_LONGEST_SHEET = 57439, /* of either version */
+    ZAKVIND_LONGEST_VERSION_1 = 56415
 };
 
 /* The most records of a table. */
@@ -281,7 +283,7 @@ static inline zakvind_entry zakvind_entry_default(void)
     return r;
 }
 
-/* Section 6, geometries. */
+/* Section 6, geometries, of version 1. */
 typedef struct {
     uint8_t flags;
     uint32_t count; /* of vertices, or of boxes */
@@ -344,6 +346,75 @@ static inline zakvind_geometry zakvind_unpack_geometry(const uint8_t at[ZAKVIND_
 static inline zakvind_geometry zakvind_geometry_default(void)
 {
     zakvind_geometry r;
+    memset(&r, 0, sizeof r);
+    r.index_buffer = 65535;
+    r.transform_buffer = 65535;
+    return r;
+}
+
+/* Section 6, geometries, of version 2. */
+typedef struct {
+    uint8_t flags;
+    uint32_t count; /* of vertices, or of boxes */
+    uint64_t first; /* first vertex, or the boxes' offset in bytes */
+    uint64_t stride;
+    uint16_t buffer; /* not 65535 */
+    uint8_t vertex_format;
+    uint8_t index_format; /* 0 none, 1 two-byte, 2 four-byte */
+    uint16_t index_buffer; /* 65535 none */
+    uint8_t index_count_present; /* 0 to 1 */
+    uint32_t index_count;
+    uint8_t first_index_present; /* 0 to 1 */
+    uint32_t first_index;
+    uint16_t transform_buffer; /* 65535 none */
+    uint8_t transform_buffer_offset_present; /* 0 to 1 */
+    uint64_t transform_buffer_offset;
+} zakvind_wide_geometry;
+
+static inline void zakvind_pack_wide_geometry(uint8_t at[ZAKVIND_WIDE_GEOMETRY_BYTES], const zakvind_wide_geometry *r)
+{
+    at[0] = r->flags;
+    zakvind_put(at + 1, 4, r->count);
+    zakvind_put(at + 5, 8, r->first);
+    zakvind_put(at + 13, 8, r->stride);
+    zakvind_put(at + 21, 2, r->buffer);
+    at[23] = r->vertex_format;
+    at[24] = r->index_format;
+    zakvind_put(at + 25, 2, r->index_buffer);
+    at[27] = r->index_count_present;
+    zakvind_put(at + 28, 4, r->index_count);
+    at[32] = r->first_index_present;
+    zakvind_put(at + 33, 4, r->first_index);
+    zakvind_put(at + 37, 2, r->transform_buffer);
+    at[39] = r->transform_buffer_offset_present;
+    zakvind_put(at + 40, 8, r->transform_buffer_offset);
+}
+
+static inline zakvind_wide_geometry zakvind_unpack_wide_geometry(const uint8_t at[ZAKVIND_WIDE_GEOMETRY_BYTES])
+{
+    zakvind_wide_geometry r;
+    r.flags = at[0];
+    r.count = zakvind_get_u32(at + 1);
+    r.first = zakvind_get_u64(at + 5);
+    r.stride = zakvind_get_u64(at + 13);
+    r.buffer = zakvind_get_u16(at + 21);
+    r.vertex_format = at[23];
+    r.index_format = at[24];
+    r.index_buffer = zakvind_get_u16(at + 25);
+    r.index_count_present = at[27];
+    r.index_count = zakvind_get_u32(at + 28);
+    r.first_index_present = at[32];
+    r.first_index = zakvind_get_u32(at + 33);
+    r.transform_buffer = zakvind_get_u16(at + 37);
+    r.transform_buffer_offset_present = at[39];
+    r.transform_buffer_offset = zakvind_get_u64(at + 40);
+    return r;
+}
+
+/* A wide geometry of which nothing is said: all 0, but for what may not be 0, and no buffer where there may be none. */
+static inline zakvind_wide_geometry zakvind_wide_geometry_default(void)
+{
+    zakvind_wide_geometry r;
     memset(&r, 0, sizeof r);
     r.index_buffer = 65535;
     r.transform_buffer = 65535;

@@ -1,5 +1,5 @@
 //! Building: tables in, the plan out.
-use crate::format::section;
+use crate::format::{Section, Version};
 use crate::layout::NO_BUFFER;
 use crate::misfit::{At, Misfit, wide};
 use crate::raw;
@@ -10,6 +10,8 @@ use std::fmt;
 /// A build's tables, sections 1 to 8, and a sheet's actions.
 #[derive(Clone, Copy, Debug, Default)]
 pub struct Tables<'a> {
+    /// of the geometries: version 2 where they were made by [`table`](crate::table), that of the sheet where they were read from one
+    pub version: Version,
     /// section 1, of [`Buffer`](crate::Buffer)
     pub buffers: &'a [u8],
     /// section 2, of [`Blas`](crate::Blas)
@@ -45,6 +47,15 @@ impl<'a> Tables<'a> {
             9 => self.actions,
             _ => &[],
         }
+    }
+
+    pub(crate) fn section(&self, number: usize) -> Option<&'static Section> {
+        self.version.section(number)
+    }
+
+    /// How many whole records the table has that stands for a section.
+    pub(crate) fn count(&self, number: usize) -> usize {
+        self.section(number).map_or(0, |s| s.count(self.table(number)))
     }
 
     pub(crate) fn put(&mut self, number: usize, table: &'a [u8]) {
@@ -152,10 +163,10 @@ pub struct Written {
 impl Written {
     /// What a recorded build of these tables writes. If nothing is recorded, it writes the ranges alone; if it is refused, nothing.
     pub fn for_tables(tables: &Tables) -> Self {
-        let count = |k: usize| section(k).map_or(0, |s| s.count(tables.table(k)));
-        let (entries, packages) = (count(5), count(7));
-        let present =
-            section(8).map_or(0, |s| s.records(tables.slots).filter(|r| s.value(r, "present").is_some_and(|p| p != 0)).count());
+        let (entries, packages) = (tables.count(5), tables.count(7));
+        let present = tables
+            .section(8)
+            .map_or(0, |s| s.records(tables.slots).filter(|r| s.value(r, "present").is_some_and(|p| p != 0)).count());
         Written {
             blas_offsets: entries,
             tlas_offsets: packages,
@@ -171,7 +182,7 @@ impl Written {
 impl Tables<'_> {
     /// A range for each buffer that a geometry names: its data, and of triangles also indices and transform.
     fn ranges(&self) -> usize {
-        let (Some(by), Some(s)) = (section(5), section(6)) else { return 0 };
+        let (Some(by), Some(s)) = (self.section(5), self.section(6)) else { return 0 };
         let kinds = by.records(self.entries).map(|r| by.value(r, "kind"));
         let mut geometries = s.records(self.geometries);
         let given = |r: &[u8], field: &str| usize::from(s.value(r, field) != Some(NO_BUFFER.into()));
@@ -188,7 +199,7 @@ impl Tables<'_> {
 
     /// Entries whose Blas has `ALLOW_COMPACTION`.
     fn compactable(&self) -> usize {
-        let (Some(by), Some(s)) = (section(5), section(2)) else { return 0 };
+        let (Some(by), Some(s)) = (self.section(5), self.section(2)) else { return 0 };
         let flags = |entry: &[u8]| {
             let blas = usize::try_from(by.value(entry, "blas")?).ok()?;
             s.value(s.record(self.blases, blas)?, "flags")
@@ -481,10 +492,14 @@ impl fmt::Display for BuildRefused {
 
 impl std::error::Error for BuildRefused {}
 
-/// Judges a build and writes its plan.
+/// Judges a build and writes its plan. Tables of either version are answered the same, as long as they say the same.
 pub fn build_acceleration_structures(alignment: u32, tables: &Tables, out: LentOutputs) -> Result<Built, BuildRefused> {
     let Tables { buffers, blases, declared, tlases, entries, geometries, packages, slots, .. } = *tables;
-    let a = raw::build(alignment, [buffers, blases, declared, tlases, entries, geometries, packages, slots], out);
+    let call = match tables.version {
+        Version::One => raw::build,
+        Version::Two => raw::build_wide,
+    };
+    let a = call(alignment, [buffers, blases, declared, tlases, entries, geometries, packages, slots], out);
     if a.number != 0 {
         let error = BuildAccelerationStructureError::from_numbers(a.number, a.figures);
         let misfit = match a.number {

@@ -1,5 +1,42 @@
 //! What a section and a field are, and where a record's values stand; `layout` has the sections.
-use crate::layout::{NO_BUFFER, SECTIONS};
+use crate::layout::{NO_BUFFER, SECTIONS_1, SECTIONS_2};
+
+/// The version of a sheet, or of tables. The two differ in how wide a geometry's `first` is, and in a sheet's first byte.
+#[derive(Clone, Copy, Debug, Default, PartialEq, Eq, PartialOrd, Ord, Hash)]
+pub enum Version {
+    /// a u32: a geometry has 44 bytes
+    One,
+    /// a u64: a geometry has 48 bytes; [`table`](crate::table) writes these
+    #[default]
+    Two,
+}
+
+impl Version {
+    /// As a sheet has it.
+    pub fn number(self) -> u8 {
+        match self {
+            Version::One => 1,
+            Version::Two => 2,
+        }
+    }
+
+    pub(crate) fn of(number: u64) -> Option<Version> {
+        [Version::One, Version::Two].into_iter().find(|v| u64::from(v.number()) == number)
+    }
+
+    /// Its sections 1 to 9.
+    pub fn sections(self) -> &'static [Section; 9] {
+        match self {
+            Version::One => &SECTIONS_1,
+            Version::Two => &SECTIONS_2,
+        }
+    }
+
+    /// Its section of this number, 1 to 9.
+    pub fn section(self, number: usize) -> Option<&'static Section> {
+        self.sections().get(number.checked_sub(1)?)
+    }
+}
 
 /// A section of a sheet, or a table that stands for one.
 #[derive(Clone, Copy, Debug, PartialEq, Eq)]
@@ -98,11 +135,6 @@ pub(crate) const fn field(
     Field { name, at, width, allowed, used, names, none }
 }
 
-/// Section 1 to 9.
-pub(crate) fn section(number: usize) -> Option<&'static Section> {
-    SECTIONS.get(number.checked_sub(1)?)
-}
-
 /// The little-endian number of these bytes, at most eight.
 pub(crate) fn number(bytes: &[u8]) -> u64 {
     bytes.iter().rev().fold(0, |n, byte| n << 8 | u64::from(*byte))
@@ -137,11 +169,6 @@ impl Field {
 }
 
 impl Section {
-    /// The section of this number, 1 to 9.
-    pub fn by_number(number: usize) -> Option<&'static Section> {
-        section(number)
-    }
-
     /// How many whole records a table has.
     pub fn count(&self, table: &[u8]) -> usize {
         table.len().checked_div(self.bytes).unwrap_or(0)

@@ -35,6 +35,7 @@
 #![deny(clippy::unreachable, clippy::arithmetic_side_effects)]
 
 mod building;
+mod convert;
 mod format;
 mod groups;
 mod layout;
@@ -50,7 +51,8 @@ pub use building::{
     AppendManyRefused, AppendRefused, BuildAccelerationStructureError, BuildRefused, Built, LentOutputs, Outputs, Recorded,
     Resource, RunningTotal, Tables, Written, append_instance, append_instances, build_acceleration_structures,
 };
-pub use format::{Allowed, Field, KindOf, Section, Used};
+pub use convert::{ConvertError, ConvertRefused, to_version_1, to_version_2, version_1_of, version_2_of};
+pub use format::{Allowed, Field, KindOf, Section, Used, Version};
 pub use groups::{MOST_GROUPS, OpenRefused, open_groups, opened_slots};
 pub use layout::*;
 pub use misfit::{At, May, Misfit};

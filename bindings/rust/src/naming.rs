@@ -1,13 +1,13 @@
 //! Finds what a refusal by 1 to 6 is about: the field in a lent table or a sheet, or the id.
 use crate::building::Tables;
-use crate::format::{Allowed, Field, KindOf, Section, number, section};
-use crate::layout::{NO_BUFFER, SECTIONS};
+use crate::format::{Allowed, Field, KindOf, Section, Version, number};
+use crate::layout::NO_BUFFER;
 use crate::misfit::{At, May, Misfit, wide};
 
 /// What the fields of a record are judged by: its kind, and how many records a section has.
 struct Seen<'a> {
     boxes: bool,
-    count: &'a dyn Fn(usize) -> usize,
+    tables: &'a Tables<'a>,
 }
 
 impl Seen<'_> {
@@ -19,7 +19,7 @@ impl Seen<'_> {
             Allowed::AtLeast(least) => value >= least,
             Allowed::OneOf(values) => values.contains(&value),
             Allowed::Except(n) => value != n,
-            Allowed::Inside(k) => value < wide((self.count)(k)),
+            Allowed::Inside(k) => value < wide(self.tables.count(k)),
         };
         (!fits).then(|| self.may(field))
     }
@@ -33,9 +33,9 @@ impl Seen<'_> {
             Allowed::AtLeast(least) => May::Range(least, top),
             Allowed::OneOf(values) => May::OneOf(values),
             Allowed::Except(n) => May::Range(0, n.saturating_sub(1)),
-            Allowed::Inside(k) => match (self.count)(k).checked_sub(1) {
+            Allowed::Inside(k) => match self.tables.count(k).checked_sub(1) {
                 Some(last) => May::Range(0, wide(last)),
-                None => May::Nothing(section(k).map_or("", |s| s.name)),
+                None => May::Nothing(self.tables.section(k).map_or("", |s| s.name)),
             },
         }
     }
@@ -53,7 +53,7 @@ impl Tables<'_> {
     /// Whether a record's kind is boxes.
     pub(crate) fn is_boxes(&self, s: &Section, i: usize) -> bool {
         let kind = |number: usize, record: usize| {
-            let of = section(number)?;
+            let of = self.section(number)?;
             of.value(of.record(self.table(number), record)?, "kind")
         };
         let found = match s.kind {
@@ -79,7 +79,7 @@ impl Tables<'_> {
     /// The record that draws record i of a drawn section, and i's number among those that it draws.
     fn drawer(&self, s: &Section, i: usize) -> Option<(usize, usize)> {
         let mut left = i;
-        self.drawn(section(s.drawn_by)?).enumerate().find_map(|(drawer, n)| {
+        self.drawn(self.section(s.drawn_by)?).enumerate().find_map(|(drawer, n)| {
             let found = (left < n).then_some((drawer, left));
             left = left.saturating_sub(n);
             found
@@ -88,8 +88,7 @@ impl Tables<'_> {
 
     /// The field of record i of a section that has a value that it may not have.
     pub(crate) fn misfit_of_record(&self, s: &Section, i: usize) -> Option<Misfit> {
-        let count = |k: usize| section(k).map_or(0, |s| s.count(self.table(k)));
-        let seen = Seen { boxes: self.is_boxes(s, i), count: &count };
+        let seen = Seen { boxes: self.is_boxes(s, i), tables: self };
         seen.first_refused(s, s.record(self.table(s.number), i)?, At::Record(s.number, i))
     }
 
@@ -100,12 +99,12 @@ impl Tables<'_> {
             let may = May::Range(1, u32::MAX.into());
             return Some(Misfit::Value { at: At::Call, field: "alignment", value: 0, may });
         }
-        let s = section(number)?;
+        let s = self.section(number)?;
         let (at, count) = (At::Section(number), s.count(self.table(number)));
         if refused == 4 {
             return Some(Misfit::TooMany { at, what: s.name, count: wide(count), most: wide(s.most) });
         }
-        if let Some(by) = section(s.drawn_by) {
+        if let Some(by) = self.section(s.drawn_by) {
             let drawn = self.drawn(by).fold(0, usize::saturating_add);
             if drawn != count {
                 return Some(Misfit::Drawn { at, table: s.name, count: wide(count), by: by.name, drawn: wide(drawn) });
@@ -122,7 +121,7 @@ impl Tables<'_> {
     pub(crate) fn id_outside(&self) -> Option<([u64; 2], Misfit)> {
         // per entry: each geometry's buffers, then the Blas; per package: each present slot's Blas, then the Tlas
         [(5, 6), (7, 8)].into_iter().find_map(|(drawing, drawn)| {
-            let (by, s) = (section(drawing)?, section(drawn)?);
+            let (by, s) = (self.section(drawing)?, self.section(drawn)?);
             let mut next: usize = 0;
             self.drawn(by).enumerate().find_map(|(i, n)| {
                 let of_drawn = (0..n).find_map(|j| {
@@ -155,14 +154,16 @@ impl Tables<'_> {
 
     /// An id that names a record of a section, if it is outside.
     pub(crate) fn outside(&self, at: At, field: &'static str, id: u64, names: usize) -> Option<Misfit> {
-        let of = section(names)?;
-        let records = wide(of.count(self.table(names)));
+        let of = self.section(names)?;
+        let records = wide(self.count(names));
         (id >= records).then_some(Misfit::Id { at, field, id, of, records })
     }
 }
 
 /// A sheet walked from its start on, up to the refused byte.
 pub(crate) struct Walk<'a> {
+    /// that it may have
+    versions: &'static [u64],
     sheet: &'a [u8],
     place: usize,
     at: usize,
@@ -170,27 +171,28 @@ pub(crate) struct Walk<'a> {
 }
 
 impl<'a> Walk<'a> {
-    pub(crate) fn new(sheet: &'a [u8], place: usize) -> Self {
-        Walk { sheet, place, at: 0, tables: Tables::default() }
+    pub(crate) fn new(versions: &'static [u64], sheet: &'a [u8], place: usize) -> Self {
+        Walk { versions, sheet, place, at: 0, tables: Tables::default() }
     }
 
     fn bytes(&self, at: usize, width: usize) -> Option<&'a [u8]> {
         self.sheet.get(at..)?.get(..width)
     }
 
-    /// What is refused by 1 to 5.
+    /// What is refused by 1 to 5, or by 47.
     pub(crate) fn misfit(mut self, refused: u64) -> Option<Misfit> {
         if refused == 3 {
             let bytes = self.sheet.len().saturating_sub(self.place);
             return Some(Misfit::LeftOver { byte: wide(self.place), bytes: wide(bytes) });
         }
-        let (version, alignment) = (May::OneOf(&[1]), May::Range(1, u32::MAX.into()));
+        let (version, alignment) = (May::OneOf(self.versions), May::Range(1, u32::MAX.into()));
         for (field, width, may) in [("version", 1, version), ("alignment", 4, alignment), ("counter", 8, May::Range(0, u64::MAX))] {
             if let Some(misfit) = self.field(field, width, None, may) {
                 return Some(misfit);
             }
         }
-        SECTIONS.iter().find_map(|s| self.section(s))
+        self.tables.version = self.sheet.first().and_then(|byte| Version::of((*byte).into()))?;
+        self.tables.version.sections().iter().find_map(|s| self.section(s))
     }
 
     /// The field that begins here, if it begins at the refused byte; else it is gone over.
@@ -211,7 +213,7 @@ impl<'a> Walk<'a> {
         let start = self.at;
         let found = self.field(s.counted, 2, None, May::Range(0, wide(s.most)));
         let count = usize::try_from(number(self.bytes(start, 2).unwrap_or(&[]))).unwrap_or(usize::MAX);
-        if let (Some(Misfit::Value { at, .. }), Some(by)) = (&found, section(s.drawn_by))
+        if let (Some(Misfit::Value { at, .. }), Some(by)) = (&found, self.tables.section(s.drawn_by))
             && count <= s.most
         {
             let drawn = self.tables.drawn(by).fold(0, usize::saturating_add);
@@ -232,8 +234,7 @@ impl<'a> Walk<'a> {
         let record = self.place.saturating_sub(from).checked_div(s.bytes)?;
         self.at = from.saturating_add(record.saturating_mul(s.bytes));
         let known = self.tables;
-        let count = |k: usize| section(k).map_or(0, |s| s.count(known.table(k)));
-        let seen = Seen { boxes: known.is_boxes(s, record), count: &count };
+        let seen = Seen { boxes: known.is_boxes(s, record), tables: &known };
         s.fields.iter().find_map(|f| self.field(f.name, f.width, Some((s.one, record)), seen.may(f)))
     }
 }

@@ -28,7 +28,7 @@ pub struct Sheet {
     pub number: u64,
     /// of the refused byte
     pub place: u64,
-    /// 1
+    /// 1 or 2
     pub version: u64,
     /// of scratch sizes
     pub alignment: u64,
@@ -92,7 +92,7 @@ pub struct Reported {
     pub written: u64,
 }
 
-/// `zakvind_written`: what writing a sheet came to.
+/// `zakvind_written`: what writing or converting a sheet came to.
 #[repr(C)]
 #[derive(Clone, Copy, Debug, PartialEq, Eq)]
 pub struct Written {
@@ -123,43 +123,54 @@ pub struct Opened {
 mod ffi {
     use super::{Appended, Built, CommandIndices, Opened, Reported, Sheet, Submitted, Written};
 
+    /// A build takes the same with geometries of either width.
+    macro_rules! builds {
+        ($($name:ident)*) => {
+            unsafe extern "C" {
+                $(pub fn $name(
+                    alignment: u32,
+                    buffers: *const u8,
+                    buffers_len: usize,
+                    blases: *const u8,
+                    blases_len: usize,
+                    declared: *const u8,
+                    declared_len: usize,
+                    tlases: *const u8,
+                    tlases_len: usize,
+                    entries: *const u8,
+                    entries_len: usize,
+                    geometries: *const u8,
+                    geometries_len: usize,
+                    packages: *const u8,
+                    packages_len: usize,
+                    slots: *const u8,
+                    slots_len: usize,
+                    blas_offsets: *mut u64,
+                    blas_offsets_len: usize,
+                    tlas_offsets: *mut u64,
+                    tlas_offsets_len: usize,
+                    staging_ranges: *mut u64,
+                    staging_ranges_len: usize,
+                    instances: *mut u8,
+                    instances_len: usize,
+                    init_ranges: *mut u64,
+                    init_ranges_len: usize,
+                    compactable: *mut u16,
+                    compactable_len: usize,
+                    lists: *mut u16,
+                    lists_len: usize,
+                ) -> Built;)*
+            }
+        };
+    }
+    builds!(zakvind_build zakvind_build_wide);
+
     unsafe extern "C" {
         pub fn zakvind_read_sheet(sheet: *const u8, sheet_len: usize) -> Sheet;
         pub fn zakvind_write_sheet(sheet: *const u8, sheet_len: usize, out: *mut u8, out_len: usize) -> Written;
+        pub fn zakvind_to_version_2(sheet: *const u8, sheet_len: usize, out: *mut u8, out_len: usize) -> Written;
+        pub fn zakvind_to_version_1(sheet: *const u8, sheet_len: usize, out: *mut u8, out_len: usize) -> Written;
         pub fn zakvind_open_groups(groups: *const u8, groups_len: usize, slots: *mut u8, slots_len: usize) -> Opened;
-        pub fn zakvind_build(
-            alignment: u32,
-            buffers: *const u8,
-            buffers_len: usize,
-            blases: *const u8,
-            blases_len: usize,
-            declared: *const u8,
-            declared_len: usize,
-            tlases: *const u8,
-            tlases_len: usize,
-            entries: *const u8,
-            entries_len: usize,
-            geometries: *const u8,
-            geometries_len: usize,
-            packages: *const u8,
-            packages_len: usize,
-            slots: *const u8,
-            slots_len: usize,
-            blas_offsets: *mut u64,
-            blas_offsets_len: usize,
-            tlas_offsets: *mut u64,
-            tlas_offsets_len: usize,
-            staging_ranges: *mut u64,
-            staging_ranges_len: usize,
-            instances: *mut u8,
-            instances_len: usize,
-            init_ranges: *mut u64,
-            init_ranges_len: usize,
-            compactable: *mut u16,
-            compactable_len: usize,
-            lists: *mut u16,
-            lists_len: usize,
-        ) -> Built;
         pub fn zakvind_submit(
             indices: *mut CommandIndices,
             blases: *mut u8,
@@ -227,49 +238,70 @@ pub fn write_sheet(sheet: &[u8], out: &mut [u8]) -> Written {
     unsafe { ffi::zakvind_write_sheet(sheet.as_ptr(), sheet.len(), out.as_mut_ptr(), out.len()) }
 }
 
+/// `zakvind_to_version_2`.
+pub fn to_version_2(sheet: &[u8], out: &mut [u8]) -> Written {
+    unsafe { ffi::zakvind_to_version_2(sheet.as_ptr(), sheet.len(), out.as_mut_ptr(), out.len()) }
+}
+
+/// `zakvind_to_version_1`.
+pub fn to_version_1(sheet: &[u8], out: &mut [u8]) -> Written {
+    unsafe { ffi::zakvind_to_version_1(sheet.as_ptr(), sheet.len(), out.as_mut_ptr(), out.len()) }
+}
+
 /// `zakvind_open_groups`.
 pub fn open_groups(groups: &[u8], slots: &mut [u8]) -> Opened {
     unsafe { ffi::zakvind_open_groups(groups.as_ptr(), groups.len(), slots.as_mut_ptr(), slots.len()) }
 }
 
-/// `zakvind_build`; `tables` are sections 1 to 8.
+macro_rules! build {
+    ($call:path, $alignment:expr, $tables:expr, $out:expr) => {{
+        let ([buffers, blases, declared, tlases, entries, geometries, packages, slots], out) = ($tables, $out);
+        unsafe {
+            $call(
+                $alignment,
+                buffers.as_ptr(),
+                buffers.len(),
+                blases.as_ptr(),
+                blases.len(),
+                declared.as_ptr(),
+                declared.len(),
+                tlases.as_ptr(),
+                tlases.len(),
+                entries.as_ptr(),
+                entries.len(),
+                geometries.as_ptr(),
+                geometries.len(),
+                packages.as_ptr(),
+                packages.len(),
+                slots.as_ptr(),
+                slots.len(),
+                out.blas_offsets.as_mut_ptr(),
+                out.blas_offsets.len(),
+                out.tlas_offsets.as_mut_ptr(),
+                out.tlas_offsets.len(),
+                out.staging_ranges.as_mut_ptr(),
+                out.staging_ranges.len(),
+                out.instances.as_mut_ptr(),
+                out.instances.len(),
+                out.init_ranges.as_mut_ptr(),
+                out.init_ranges.len(),
+                out.compactable.as_mut_ptr(),
+                out.compactable.len(),
+                out.lists.as_mut_ptr(),
+                out.lists.len(),
+            )
+        }
+    }};
+}
+
+/// `zakvind_build`; `tables` are sections 1 to 8, those of version 1.
 pub fn build(alignment: u32, tables: [&[u8]; 8], out: crate::LentOutputs) -> Built {
-    let [buffers, blases, declared, tlases, entries, geometries, packages, slots] = tables;
-    unsafe {
-        ffi::zakvind_build(
-            alignment,
-            buffers.as_ptr(),
-            buffers.len(),
-            blases.as_ptr(),
-            blases.len(),
-            declared.as_ptr(),
-            declared.len(),
-            tlases.as_ptr(),
-            tlases.len(),
-            entries.as_ptr(),
-            entries.len(),
-            geometries.as_ptr(),
-            geometries.len(),
-            packages.as_ptr(),
-            packages.len(),
-            slots.as_ptr(),
-            slots.len(),
-            out.blas_offsets.as_mut_ptr(),
-            out.blas_offsets.len(),
-            out.tlas_offsets.as_mut_ptr(),
-            out.tlas_offsets.len(),
-            out.staging_ranges.as_mut_ptr(),
-            out.staging_ranges.len(),
-            out.instances.as_mut_ptr(),
-            out.instances.len(),
-            out.init_ranges.as_mut_ptr(),
-            out.init_ranges.len(),
-            out.compactable.as_mut_ptr(),
-            out.compactable.len(),
-            out.lists.as_mut_ptr(),
-            out.lists.len(),
-        )
-    }
+    build!(ffi::zakvind_build, alignment, tables, out)
+}
+
+/// `zakvind_build_wide`; `tables` are sections 1 to 8, those of version 2.
+pub fn build_wide(alignment: u32, tables: [&[u8]; 8], out: crate::LentOutputs) -> Built {
+    build!(ffi::zakvind_build_wide, alignment, tables, out)
 }
 
 /// `zakvind_submit`.

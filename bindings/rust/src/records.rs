@@ -1,6 +1,6 @@
 //! Ids and records, to tables and back.
 use crate::building::Tables;
-use crate::format::section;
+use crate::format::Version;
 use crate::layout::NO_BUFFER;
 use crate::misfit::{At, May, Misfit};
 
@@ -21,14 +21,14 @@ pub trait Record: Sized {
     /// The section that its table stands for, 1 to 9.
     const SECTION: usize;
 
-    /// Writes it at the table's end, or says what doesn't fit and leaves the table as it was.
+    /// Writes it at the table's end, as version 2 has it, or says what doesn't fit and leaves the table as it was.
     fn put(&self, table: &mut Vec<u8>) -> Result<(), Misfit>;
 
     /// Reads it from its bytes; `None` for a value that it can't have.
     fn get(reader: Reader) -> Option<Self>;
 }
 
-/// The table of these records.
+/// The table of these records, as version 2 has them.
 pub fn table<R: Record>(records: &[R]) -> Result<Vec<u8>, Misfit> {
     let mut table = Vec::new();
     records.iter().try_for_each(|r| r.put(&mut table))?;
@@ -38,7 +38,7 @@ pub fn table<R: Record>(records: &[R]) -> Result<Vec<u8>, Misfit> {
 impl Tables<'_> {
     /// The records of one of these tables. Fields that are not used are read as those of a default record.
     pub fn records<R: Record>(&self) -> Result<Vec<R>, Misfit> {
-        let Some(s) = section(R::SECTION) else { return Ok(Vec::new()) };
+        let Some(s) = self.section(R::SECTION) else { return Ok(Vec::new()) };
         let table = self.table(s.number);
         let whole = s.count(table);
         let left = table.len().saturating_sub(whole.saturating_mul(s.bytes));
@@ -53,15 +53,19 @@ impl Tables<'_> {
             for f in s.fields.iter().filter(|f| !f.is_used(s.fields, record, self.is_boxes(s, i))) {
                 used.iter_mut().skip(f.at).take(f.width).zip(f.least().to_le_bytes()).for_each(|(to, from)| *to = from);
             }
-            R::get(Reader(&used)).ok_or(Misfit::PartRecord { at: At::Record(s.number, i), bytes: record.len(), whole: s.bytes })
+            R::get(Reader(&used, self.version)).ok_or(Misfit::PartRecord {
+                at: At::Record(s.number, i),
+                bytes: record.len(),
+                whole: s.bytes,
+            })
         };
         s.records(table).enumerate().map(read).collect()
     }
 }
 
-/// A record's bytes, read from the first on.
+/// A record's bytes, read from the first on, and the version that has them so.
 #[derive(Clone, Copy, Debug)]
-pub struct Reader<'a>(&'a [u8]);
+pub struct Reader<'a>(&'a [u8], Version);
 
 impl Reader<'_> {
     fn take<const N: usize>(&mut self) -> Option<[u8; N]> {
@@ -88,6 +92,14 @@ impl Reader<'_> {
     /// The next eight bytes.
     pub fn u64(&mut self) -> Option<u64> {
         self.take().map(u64::from_le_bytes)
+    }
+
+    /// The next four bytes, in version 2 the next eight.
+    pub fn by_version(&mut self) -> Option<u64> {
+        match self.1 {
+            Version::One => self.u32().map(u64::from),
+            Version::Two => self.u64(),
+        }
     }
 
     /// The next byte, 0 or 1.
@@ -392,7 +404,7 @@ pub struct BlasGeometry {
     /// of vertices or boxes
     pub count: u32,
     /// first vertex, or the boxes' offset in bytes
-    pub first: u32,
+    pub first: u64,
     /// from one vertex or box to the next, in bytes
     pub stride: u64,
     /// of vertices or boxes
@@ -431,7 +443,7 @@ impl Record for BlasGeometry {
     const SECTION: usize = 6;
 
     fn put(&self, table: &mut Vec<u8>) -> Result<(), Misfit> {
-        let record = section(Self::SECTION).map_or(0, |s| s.count(table));
+        let record = Version::Two.section(Self::SECTION).map_or(0, |s| s.count(table));
         let index_buffer = buffer_or_none("index_buffer", self.index_buffer, record)?;
         let transform_buffer = buffer_or_none("transform_buffer", self.transform_buffer, record)?;
         put!(table, self.flags, self.count, self.first, self.stride, self.buffer.0, self.vertex_format);
@@ -444,7 +456,7 @@ impl Record for BlasGeometry {
     }
 
     fn get(mut r: Reader) -> Option<Self> {
-        let (flags, count, first, stride) = (r.u8()?, r.u32()?, r.u32()?, r.u64()?);
+        let (flags, count, first, stride) = (r.u8()?, r.u32()?, r.by_version()?, r.u64()?);
         let (buffer, vertex_format, index_format) = (BufferId(r.u16()?), r.u8()?, IndexFormat::of(r.u8()?)?);
         let index_buffer = r.buffer()?;
         let (present, index_count) = (r.bit()?, r.u32()?);

@@ -1,7 +1,6 @@
 //! Sheets.
 use crate::building::Tables;
-use crate::format::section;
-use crate::layout::SECTIONS;
+use crate::format::Version;
 use crate::misfit::Misfit;
 use crate::naming::Walk;
 use crate::raw;
@@ -12,7 +11,7 @@ use std::fmt;
 #[derive(Clone, Copy, Debug, PartialEq, Eq)]
 #[non_exhaustive]
 pub enum SheetError {
-    /// 1: version not 1
+    /// 1: version neither 1 nor 2
     UnknownVersion,
     /// 2: sheet ends early
     Truncated,
@@ -63,9 +62,12 @@ pub struct SheetRefused {
     pub misfit: Option<Box<Misfit>>,
 }
 
+/// The versions that are read.
+const VERSIONS: &[u64] = &[1, 2];
+
 impl SheetRefused {
     fn of(sheet: &[u8], number: u64, place: u64) -> SheetRefused {
-        let misfit = usize::try_from(place).ok().and_then(|place| Walk::new(sheet, place).misfit(number));
+        let misfit = usize::try_from(place).ok().and_then(|place| Walk::new(VERSIONS, sheet, place).misfit(number));
         SheetRefused { error: SheetError::from_number(number), place, misfit: misfit.map(Box::new) }
     }
 }
@@ -82,8 +84,8 @@ impl std::error::Error for SheetRefused {}
 /// An accepted sheet.
 #[derive(Clone, Copy, Debug)]
 pub struct Sheet<'a> {
-    /// 1
-    pub version: u8,
+    /// how wide a geometry's `first` is
+    pub version: Version,
     /// of scratch sizes
     pub alignment: u32,
     /// the number that the next build takes
@@ -94,7 +96,7 @@ pub struct Sheet<'a> {
 impl<'a> Sheet<'a> {
     /// The records of section 1 to 9; `None` for another number.
     pub fn section(&self, number: usize) -> Option<&'a [u8]> {
-        section(number).map(|s| self.tables.table(s.number))
+        self.version.section(number).map(|s| self.tables.table(s.number))
     }
 
     /// Its tables, to be built, and its actions.
@@ -103,16 +105,16 @@ impl<'a> Sheet<'a> {
     }
 }
 
-/// Reads a sheet.
+/// Reads a sheet of either version.
 pub fn read_sheet(sheet: &[u8]) -> Result<Sheet<'_>, SheetRefused> {
     let a = raw::read_sheet(sheet);
     let accepted = || {
-        let mut tables = Tables::default();
-        for (s, at) in SECTIONS.iter().zip(a.sections) {
+        let (version, alignment) = (Version::of(a.version)?, u32::try_from(a.alignment).ok()?);
+        let mut tables = Tables { version, ..Tables::default() };
+        for (s, at) in version.sections().iter().zip(a.sections) {
             let (start, count) = (usize::try_from(at.start).ok()?, usize::try_from(at.count).ok()?);
             tables.put(s.number, sheet.get(start..)?.get(..count.checked_mul(s.bytes)?)?);
         }
-        let (version, alignment) = (u8::try_from(a.version).ok()?, u32::try_from(a.alignment).ok()?);
         Some(Sheet { version, alignment, counter: a.counter, tables })
     };
     if a.number == 0 {
@@ -150,8 +152,9 @@ impl std::error::Error for WriteRefused {
     }
 }
 
-/// Writes a sheet anew: unused fields zero, declared geometries by Blas number and those of one Blas in their order. It has as many
-/// bytes as before, and that many are answered. Two sheets come to the same bytes exactly when they mean the same.
+/// Writes a sheet anew, in its own version: unused fields zero, declared geometries by Blas number and those of one Blas in their
+/// order. It has as many bytes as before, and that many are answered. Two sheets come to the same bytes exactly when they mean the same,
+/// which two of different versions never do.
 pub fn write_sheet(sheet: &[u8], out: &mut [u8]) -> Result<usize, WriteRefused> {
     let a = raw::write_sheet(sheet, out);
     match a.number {

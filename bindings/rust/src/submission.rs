@@ -1,6 +1,5 @@
 //! Submissions.
 use crate::building::{Recorded, Tables};
-use crate::format::section;
 use crate::misfit::{At, May, Misfit, wide};
 use crate::raw::{self, CommandIndices};
 use crate::records::{BlasId, TlasId};
@@ -237,7 +236,7 @@ impl Judged<'_> {
     }
 
     fn table(&self, tables: &Tables, k: usize) -> Option<Misfit> {
-        let (s, number) = (section(k)?, wide(k));
+        let (s, number) = (tables.section(k)?, wide(k));
         let (table, count) = (tables.table(k), s.count(tables.table(k)));
         match self.number {
             4 if count > s.most => tables.misfit(4, [number, 0]),
@@ -250,9 +249,8 @@ impl Judged<'_> {
     }
 
     fn lists(&self, tables: &Tables) -> Option<Misfit> {
-        let tlases = section(4).map_or(0, |s| s.count(tables.tlases));
         let rooms = self.lent.dependencies.chunks_exact(DEPENDENCY_ROOM);
-        self.lent.dependency_counts.iter().zip(rooms).take(tlases).enumerate().find_map(|(t, (count, room))| {
+        self.lent.dependency_counts.iter().zip(rooms).take(tables.count(4)).enumerate().find_map(|(t, (count, room))| {
             let (at, most) = (At::Start(t), wide(DEPENDENCY_ROOM));
             match self.number {
                 4 if u64::from(*count) > most => Some(Misfit::TooMany { at, what: "blases", count: (*count).into(), most }),

@@ -11,6 +11,8 @@ pub(crate) enum Call {
     Write,
     Groups,
     AppendMany,
+    ToVersion2,
+    ToVersion1,
 }
 
 impl Call {
@@ -23,6 +25,8 @@ impl Call {
             Call::Write => 5,
             Call::Groups => 6,
             Call::AppendMany => 7,
+            Call::ToVersion2 => 8,
+            Call::ToVersion1 => 9,
         }
     }
 }
