@@ -15,10 +15,12 @@ use lib.Seq.{sets, sets-eq, take-at}
 use borrow.Author.Tests.{ltb-true, ltb-false}
 use Rattle.wire.specs.Wire.{leAt}
 use Rattle.wire.proofs.Laws.{le-below, le-drop}
+use Rattle.ray_tracing.specs.declared.Version.{Version}
+use Rattle.ray_tracing.specs.declared.Version.the-variants as version
 use Rattle.ray_tracing.specs.declared.Sheet.{Sheet}
-use Rattle.ray_tracing.specs.Layout.{Seen, Field, layout, size}
-use Rattle.ray_tracing.specs.Reading.{fine, judgeLent, past, from, table, begin, sectionOf, sheetOf, Reading, accepted, rejected, readSheet}
-use Rattle.ray_tracing.specs.Meaning.{recordsFrom, recordsOf, declaredLists, recordMeaning, heldMeaning, sectionMeaning, Meaning, meaning}
+use Rattle.ray_tracing.specs.Layout.{Seen, Field, Layout, versionNumber, geometries, layout, layoutIn, size, sizeIn}
+use Rattle.ray_tracing.specs.Reading.{fine, judgeLent, versionIn, past, from, table, begin, sectionOf, sheetOf, Reading, accepted, rejected, readSheet}
+use Rattle.ray_tracing.specs.Meaning.{recordsFrom, drawnFrom, recordsOf, declaredLists, recordMeaning, heldMeaning, sectionMeaning, Meaning, meaning}
 use Rattle.ray_tracing.specs.Canonical.{sectionBytes, headerBytes, sheetBytes, countOf, canonicalTables, canonical, Writing, wrote, unwritten, afterReading, writeRule, writingLeaves, WritesSheet}
 use Rattle.ray_tracing.specs.Writing.{endOf, sectionWith, sheetWith}
 use Rattle.ray_tracing.proofs.Each.{each, size-positive}
@@ -92,16 +94,25 @@ records-apart fs c d w e zero u = refl
 records-apart fs c d w e (suc n) u = rw (e (take w u), records-apart fs c d w e n (drop w u))
 
 means-apart :
-    (k : ℕ)
+    (v : Version) (k : ℕ)
     → k < 10
     → leans k ≡ false
     → (t₁ t₂ u : List ℕ)
-    → map (heldMeaning k) (recordsOf k t₁ u) ≡ map (heldMeaning k) (recordsOf k t₂ u)
-means-apart k h l t₁ t₂ u =
+    → map (heldMeaning v k) (recordsOf v k t₁ u) ≡ map (heldMeaning v k) (recordsOf v k t₂ u)
+means-apart v k h l t₁ t₂ u =
     let six = or-false (eqb k 6) (eqb k 8) (or-false (eqb k 3) _ l .1) .0 in
-    let w = size (k - 1) in
-    rw six
-    (records-apart (layout k .fields) (begin w t₁ false) (begin w t₂ false) (size k) (record-apart k h l w w t₁ t₂) (length u / size k) u)
+    let w = sizeIn v (k - 1) in
+    let n = length u / sizeIn v k in
+    let fs : layoutIn v k ≡ layout k = ap (λ (b : Bool). cond b (geometries v) (layout k)) six in
+    let plain : (t : List ℕ) → recordsOf v k t u ≡ recordsFrom (begin w t false) (sizeIn v k) u n =
+    λ t. ap (λ (b : Bool). cond b (drawnFrom v t 0 u (length t / size 5)) (recordsFrom (begin w t false) (sizeIn v k) u n)) six in
+    let apart : (r : List ℕ) → recordMeaning (layoutIn v k .fields) (begin w t₁ false) r ≡ recordMeaning (layoutIn v k .fields) (begin w t₂ false) r =
+    λ r. ap (λ (l : Layout). recordMeaning (l .fields) (begin w t₁ false) r) fs
+    ∙ record-apart k h l w w t₁ t₂ r
+    ∙ sym (ap (λ (l : Layout). recordMeaning (l .fields) (begin w t₂ false) r) fs) in
+    ap (map (heldMeaning v k)) (plain t₁)
+    ∙ records-apart (layoutIn v k .fields) (begin w t₁ false) (begin w t₂ false) (sizeIn v k) apart n u
+    ∙ sym (ap (map (heldMeaning v k)) (plain t₂))
 
 header-of :
     (s : List ℕ) → recordMeaning (layout 0 .fields) (begin 0 [] false) (drop 1 s) ≡ some (leAt 4 s 1) ∷ some (leAt 8 s 5) ∷ []
@@ -116,17 +127,17 @@ below-table s k b = below-take (past s k - from s k) (drop (from s k) s) (below-
 
 module _ (s : List ℕ) (x : Sheet) (e : readSheet s ≡ accepted x) where
   -- section k is judged fine, and made canonical
-  lent-at : (k : ℕ) → 0 < k → k < 10 → judgeLent k (layout k) (size (k - 1)) (table s (k - 1)) (table s k) ≡ fine
+  lent-at : (k : ℕ) → 0 < k → k < 10 → judgeLent k (layoutIn (versionIn s) k) (sizeIn (versionIn s) (k - 1)) (table s (k - 1)) (table s k) ≡ fine
   lent-at k p h =
       let j : k - 1 + 1 ≡ k = omega arith in
       rw j at (accepted-lent s x e (k - 1) (omega arith))
 
-  pub made-at : (k : ℕ) → 0 < k → k < 10 → Made k (table s (k - 1)) (table s k)
-  made-at k p h = made k h (table s (k - 1)) (table s k) (lent-at k p h)
+  pub made-at : (k : ℕ) → 0 < k → k < 10 → Made (versionIn s) k (table s (k - 1)) (table s k)
+  made-at k p h = made (versionIn s) k h (table s (k - 1)) (table s k) (lent-at k p h)
 
   -- a section that the next one leans on has all fields used
   kept : (k : ℕ) → 0 < k → k < 10 → mayBeUnused k ≡ false → canonicalTables s k ≡ table s k
-  kept k p h u = used-table k h u (table s (k - 1)) (table s k) (lent-at k p h)
+  kept k p h u = used-table (versionIn s) k h u (table s (k - 1)) (table s k) (lent-at k p h)
 
   kept-before : (k : ℕ) → k < 9 → leans (k + 1) ≡ true → canonicalTables s k ≡ table s k
   kept-before k h l =
@@ -136,23 +147,23 @@ module _ (s : List ℕ) (x : Sheet) (e : readSheet s ≡ accepted x) where
   abbrev tables : ℕ → List ℕ
   tables = canonicalTables s
 
-  lent-again : (k : ℕ) → k < 9 → judgeLent (k + 1) (layout (k + 1)) (size k) (tables k) (tables (k + 1)) ≡ fine
+  lent-again : (k : ℕ) → k < 9 → judgeLent (k + 1) (layoutIn (versionIn s) (k + 1)) (sizeIn (versionIn s) k) (tables k) (tables (k + 1)) ≡ fine
   lent-again k h = go (leans (k + 1)) refl
     where
       j : k + 1 - 1 ≡ k
       j = omega arith
 
-      f : judgeLent (k + 1) (layout (k + 1)) (size k) (table s k) (tables (k + 1)) ≡ fine
+      f : judgeLent (k + 1) (layoutIn (versionIn s) (k + 1)) (sizeIn (versionIn s) k) (table s k) (tables (k + 1)) ≡ fine
       f =
-          subst (λ (i : ℕ). judgeLent (k + 1) (layout (k + 1)) (size i) (table s i) (tables (k + 1)) ≡ fine) j
+          subst (λ (i : ℕ). judgeLent (k + 1) (layoutIn (versionIn s) (k + 1)) (sizeIn (versionIn s) i) (table s i) (tables (k + 1)) ≡ fine) j
           (made-at (k + 1) (omega arith) (omega arith) .fine′)
 
-      go : (b : Bool) → leans (k + 1) ≡ b → judgeLent (k + 1) (layout (k + 1)) (size k) (tables k) (tables (k + 1)) ≡ fine
+      go : (b : Bool) → leans (k + 1) ≡ b → judgeLent (k + 1) (layoutIn (versionIn s) (k + 1)) (sizeIn (versionIn s) k) (tables k) (tables (k + 1)) ≡ fine
       go true l = rw (kept-before k h l) f
-      go false l = lent-apart (k + 1) (omega arith) l (size k) (size k) (tables k) (table s k) (tables (k + 1)) ∙ f
+      go false l = lent-apart (k + 1) (omega arith) l (versionIn s) (versionIn s) (sizeIn (versionIn s) k) (sizeIn (versionIn s) k) (tables k) (table s k) (tables (k + 1)) ∙ f
 
   -- it stands where it stood
-  pub length-at : (k : ℕ) → k < 9 → length (tables (k + 1)) ≡ leAt 2 s (past s k) * size (k + 1)
+  pub length-at : (k : ℕ) → k < 9 → length (tables (k + 1)) ≡ leAt 2 s (past s k) * sizeIn (versionIn s) (k + 1)
   length-at k h = made-at (k + 1) (omega arith) (omega arith) .length′ ∙ accepted-length s x e k h
 
   end-same : (k : ℕ) → k ≤ 9 → endOf tables k ≡ past s k
@@ -160,16 +171,16 @@ module _ (s : List ℕ) (x : Sheet) (e : readSheet s ≡ accepted x) where
   end-same (suc k) h =
       rw (← add-one k, end-more tables k, length-at k (omega arith), past-more s k, end-same k (omega arith))
 
-  pub count-same : (k : ℕ) → k < 9 → countOf tables (k + 1) ≡ leAt 2 s (past s k)
-  count-same k h = rw (length-at k h) (mul-div-cancel (leAt 2 s (past s k)) (size-positive (k + 1) (omega arith)))
+  pub count-same : (k : ℕ) → k < 9 → countOf (versionIn s) tables (k + 1) ≡ leAt 2 s (past s k)
+  count-same k h = rw (length-at k h) (mul-div-cancel (leAt 2 s (past s k)) (size-positive (versionIn s) (k + 1) (omega arith)))
 
-  section-same : (k : ℕ) → k < 9 → sectionWith tables k ≡ sectionOf s k
+  section-same : (k : ℕ) → k < 9 → sectionWith (versionIn s) tables k ≡ sectionOf s k
   section-same k h = λ i. record { start = end-same k (omega arith) i + 2; count = count-same k h i }
 
-  sheet-same : sheetWith (leAt 4 s 1) (leAt 8 s 5) tables ≡ x
+  sheet-same : sheetWith (versionIn s) (leAt 4 s 1) (leAt 8 s 5) tables ≡ x
   sheet-same =
       (λ i. record {
-        version = sym (accepted-version s x e) i;
+        version = versionIn s;
         alignment = leAt 4 s 1;
         counter = leAt 8 s 5;
         buffers = section-same 0 (lit< tt) i;
@@ -188,7 +199,7 @@ module _ (s : List ℕ) (x : Sheet) (e : readSheet s ≡ accepted x) where
     pub output-read : readSheet (canonical s) ≡ accepted x
     unfolding canonical
     output-read =
-        written-read (leAt 4 s 1) (leAt 8 s 5) tables lent-again
+        written-read (versionIn s) (leAt 4 s 1) (leAt 8 s 5) tables lent-again
         (rw (accepted-is s x e) at (accepted-alignment s x e)) (le-below 4 s 1 b) (le-below 8 s 5 b)
         ∙ ap accepted sheet-same
 
@@ -196,44 +207,53 @@ module _ (s : List ℕ) (x : Sheet) (e : readSheet s ≡ accepted x) where
     unfolding canonical
     table-at k p h =
         let j : k - 1 + 1 ≡ k = omega arith in
-        rw j at (written-table (leAt 4 s 1) (leAt 8 s 5) tables lent-again (k - 1) (omega arith))
+        rw j at (written-table (versionIn s) (leAt 4 s 1) (leAt 8 s 5) tables lent-again (k - 1) (omega arith))
 
     -- ---- it means the same
 
+    fields-same : sheetOf (canonical s) ≡ sheetOf s
+    fields-same = sym (accepted-is (canonical s) x output-read) ∙ accepted-is s x e
+
+    version-same : versionIn (canonical s) ≡ versionIn s
+    version-same = ap (λ (y : Sheet). y .version) fields-same
+
     section-means : (k : ℕ) → 0 < k → k < 10 → eqb k 3 ≡ false → sectionMeaning (canonical s) k ≡ sectionMeaning s k
     section-means k p h three =
-        ap (λ (u : List ℕ). map (heldMeaning k) (recordsOf k (table (canonical s) (k - 1)) u)) (table-at k p h)
+        ap (λ (v : Version). map (heldMeaning v k) (recordsOf v k (table (canonical s) (k - 1)) (table (canonical s) k))) version-same
+        ∙ ap (λ (u : List ℕ). map (heldMeaning (versionIn s) k) (recordsOf (versionIn s) k (table (canonical s) (k - 1)) u)) (table-at k p h)
         ∙ go (leans k) refl
-        ∙ table-means k h (table s (k - 1)) (table s k) (made-at k p h) three
+        ∙ table-means (versionIn s) k h (table s (k - 1)) (table s k) (made-at k p h) three
       where
         go :
             (l : Bool)
             → leans k ≡ l
-            → map (heldMeaning k) (recordsOf k (table (canonical s) (k - 1)) (tables k)) ≡ map (heldMeaning k) (recordsOf k (table s (k - 1)) (tables k))
+            → map (heldMeaning (versionIn s) k) (recordsOf (versionIn s) k (table (canonical s) (k - 1)) (tables k))
+            ≡ map (heldMeaning (versionIn s) k) (recordsOf (versionIn s) k (table s (k - 1)) (tables k))
         go true l =
             let j : k ≡ k - 1 + 1 = omega arith in
             let l′ : leans (k - 1 + 1) ≡ true = sym (ap leans j) ∙ l in
             let f = leant-on (k - 1) (omega arith) l′ in
-            ap (λ (t : List ℕ). map (heldMeaning k) (recordsOf k t (tables k)))
+            ap (λ (t : List ℕ). map (heldMeaning (versionIn s) k) (recordsOf (versionIn s) k t (tables k)))
             (table-at (k - 1) (ltb-true 0 (k - 1) (f .0)) (omega arith) ∙ kept-before (k - 1) (omega arith) l′)
-        go false l = means-apart k h l (table (canonical s) (k - 1)) (table s (k - 1)) (tables k)
+        go false l = means-apart (versionIn s) k h l (table (canonical s) (k - 1)) (table s (k - 1)) (tables k)
 
     declared-same :
-        map (map (heldMeaning 3)) (declaredLists (table (canonical s) 2) (table (canonical s) 3))
-        ≡ map (map (heldMeaning 3)) (declaredLists (table s 2) (table s 3))
+        map (map (heldMeaning version.One 3)) (declaredLists (table (canonical s) 2) (table (canonical s) 3))
+        ≡ map (map (heldMeaning version.One 3)) (declaredLists (table s 2) (table s 3))
     declared-same =
         rw (table-at 2 (omega arith) (omega arith), table-at 3 (omega arith) (omega arith), kept 2 (omega arith) (omega arith) refl)
-        (declared-means (table s 2) (table s 3) (made-at 3 (omega arith) (omega arith)))
+        (declared-means (versionIn s) (table s 2) (table s 3) (made-at 3 (omega arith) (omega arith)))
 
-    fields-same : sheetOf (canonical s) ≡ sheetOf s
-    fields-same = sym (accepted-is (canonical s) x output-read) ∙ accepted-is s x e
+    version-number : leAt 1 (canonical s) 0 ≡ leAt 1 s 0
+    version-number =
+        accepted-version (canonical s) x output-read ∙ ap versionNumber version-same ∙ sym (accepted-version s x e)
 
     pub output-means : meaning (canonical s) ≡ meaning s
     unfolding meaning
     output-means =
         let header = header-of (canonical s) ∙ ap (λ (y : Sheet). some (y .alignment) ∷ some (y .counter) ∷ []) fields-same ∙ sym (header-of s) in
         simp (
-          ap (λ (y : Sheet). y .version) fields-same,
+          version-number,
           header,
           section-means 1 (omega arith) (omega arith) refl,
           section-means 2 (omega arith) (omega arith) refl,
@@ -248,54 +268,67 @@ module _ (s : List ℕ) (x : Sheet) (e : readSheet s ≡ accepted x) where
 
     -- ---- it is made of what it means
 
-    section-of : (k : ℕ) → 0 < k → k < 10 → eqb k 3 ≡ false → bytesOf k (sectionMeaning s k) ≡ tables k
-    section-of k p h three = table-of k (table s (k - 1)) (table s k) (made-at k p h) (below-table s k b) three
+    section-of : (k : ℕ) → 0 < k → k < 10 → eqb k 3 ≡ false → bytesOf (versionIn s) k (sectionMeaning s k) ≡ tables k
+    section-of k p h three = table-of (versionIn s) k (table s (k - 1)) (table s k) (made-at k p h) (below-table s k b) three
 
     declared-lists-of :
-        flatten (map (bytesOf 3) (map (map (heldMeaning 3)) (declaredLists (table s 2) (table s 3)))) ≡ tables 3
-    declared-lists-of = declared-of (table s 2) (table s 3) (made-at 3 (omega arith) (omega arith)) (below-table s 3 b)
+        flatten (map (bytesOf version.One 3) (map (map (heldMeaning version.One 3)) (declaredLists (table s 2) (table s 3)))) ≡ tables 3
+    declared-lists-of = declared-of (versionIn s) (table s 2) (table s 3) (made-at 3 (omega arith) (omega arith)) (below-table s 3 b)
 
 -- ---- two of them
 
 sections-cong :
-    (T U : ℕ → List ℕ) → ((k : ℕ) → k < 9 → T (k + 1) ≡ U (k + 1)) → (n k : ℕ) → k + n ≤ 9 → sectionBytes T k n ≡ sectionBytes U k n
+    (v : Version) (T U : ℕ → List ℕ)
+    → ((k : ℕ) → k < 9 → T (k + 1) ≡ U (k + 1))
+    → (n k : ℕ)
+    → k + n ≤ 9
+    → sectionBytes v T k n ≡ sectionBytes v U k n
 unfolding sectionBytes
-sections-cong T U e zero k h = refl
-sections-cong T U e (suc n) k h = rw (e k (omega arith), sections-cong T U e n (k + 1) (omega arith))
+sections-cong v T U e zero k h = refl
+sections-cong v T U e (suc n) k h = rw (e k (omega arith), sections-cong v T U e n (k + 1) (omega arith))
 
 module _ (s t : List ℕ) (x y : Sheet) (e : readSheet s ≡ accepted x) (f : readSheet t ≡ accepted y) (b : Below s) (c : Below t) where
+  -- "two sheets of different versions never count as meaning the same"
+  versions-equal : meaning s ≡ meaning t → versionIn s ≡ versionIn t
+  unfolding meaning versionIn
+  versions-equal m = ap (λ (z : Meaning). cond (eqb (z .version) 2) version.Two version.One) m
+
   section-equal :
-      (k : ℕ)
+      versionIn s ≡ versionIn t
+      → (k : ℕ)
       → 0 < k
       → k < 10
       → eqb k 3 ≡ false
       → sectionMeaning s k ≡ sectionMeaning t k
       → canonicalTables s k ≡ canonicalTables t k
-  section-equal k p h three m =
-      sym (section-of s x e b k p h three) ∙ ap (bytesOf k) m ∙ section-of t y f c k p h three
+  section-equal v k p h three m =
+      sym (section-of s x e b k p h three)
+      ∙ ap (bytesOf (versionIn s) k) m
+      ∙ ap (λ (w : Version). bytesOf w k (sectionMeaning t k)) v
+      ∙ section-of t y f c k p h three
 
   tables-equal : meaning s ≡ meaning t → (k : ℕ) → k < 9 → canonicalTables s (k + 1) ≡ canonicalTables t (k + 1)
   unfolding meaning
   tables-equal m =
       each (λ (k : ℕ). canonicalTables s (k + 1) ≡ canonicalTables t (k + 1)) 9 (
-        section-equal 1 (omega arith) (omega arith) refl (ap (λ (z : Meaning). z .buffers) m),
+        section-equal (versions-equal m) 1 (omega arith) (omega arith) refl (ap (λ (z : Meaning). z .buffers) m),
         (
-          section-equal 2 (omega arith) (omega arith) refl (ap (λ (z : Meaning). z .blases) m),
+          section-equal (versions-equal m) 2 (omega arith) (omega arith) refl (ap (λ (z : Meaning). z .blases) m),
           (
             sym (declared-lists-of s x e b)
-                ∙ ap (λ (z : Meaning). flatten (map (bytesOf 3) (z .declared))) m
+                ∙ ap (λ (z : Meaning). flatten (map (bytesOf version.One 3) (z .declared))) m
                 ∙ declared-lists-of t y f c,
             (
-              section-equal 4 (omega arith) (omega arith) refl (ap (λ (z : Meaning). z .tlases) m),
+              section-equal (versions-equal m) 4 (omega arith) (omega arith) refl (ap (λ (z : Meaning). z .tlases) m),
               (
-                section-equal 5 (omega arith) (omega arith) refl (ap (λ (z : Meaning). z .entries) m),
+                section-equal (versions-equal m) 5 (omega arith) (omega arith) refl (ap (λ (z : Meaning). z .entries) m),
                 (
-                  section-equal 6 (omega arith) (omega arith) refl (ap (λ (z : Meaning). z .geometries) m),
+                  section-equal (versions-equal m) 6 (omega arith) (omega arith) refl (ap (λ (z : Meaning). z .geometries) m),
                   (
-                    section-equal 7 (omega arith) (omega arith) refl (ap (λ (z : Meaning). z .packages) m),
+                    section-equal (versions-equal m) 7 (omega arith) (omega arith) refl (ap (λ (z : Meaning). z .packages) m),
                     (
-                      section-equal 8 (omega arith) (omega arith) refl (ap (λ (z : Meaning). z .slots) m),
-                      (section-equal 9 (omega arith) (omega arith) refl (ap (λ (z : Meaning). z .actions) m), tt),
+                      section-equal (versions-equal m) 8 (omega arith) (omega arith) refl (ap (λ (z : Meaning). z .slots) m),
+                      (section-equal (versions-equal m) 9 (omega arith) (omega arith) refl (ap (λ (z : Meaning). z .actions) m), tt),
                     ),
                   ),
                 ),
@@ -312,12 +345,16 @@ module _ (s t : List ℕ) (x y : Sheet) (e : readSheet s ≡ accepted x) (f : re
       (cc h, cc h)
 
   same-bytes :
-      leAt 4 s 1 ≡ leAt 4 t 1
+      versionIn s ≡ versionIn t
+      → leAt 4 s 1 ≡ leAt 4 t 1
       → leAt 8 s 5 ≡ leAt 8 t 5
       → ((k : ℕ) → k < 9 → canonicalTables s (k + 1) ≡ canonicalTables t (k + 1))
       → canonical s ≡ canonical t
   unfolding canonical sheetBytes
-  same-bytes p q r = rw (p, q) (ap (λ (u : List ℕ). headerBytes (leAt 4 t 1) (leAt 8 t 5) ++ u) (sections-cong (canonicalTables s) (canonicalTables t) r 9 0 (omega arith)))
+  same-bytes v p q r =
+      (λ i. headerBytes (v i) (p i) (q i) ++ sectionBytes (v i) (canonicalTables s) 0 9)
+      ∙ ap (λ (u : List ℕ). headerBytes (versionIn t) (leAt 4 t 1) (leAt 8 t 5) ++ u)
+      (sections-cong (versionIn t) (canonicalTables s) (canonicalTables t) r 9 0 (omega arith))
 
   -- "two sheets give equal output exactly when they mean the same"
   pub exactly : (canonical s ≡ canonical t) ↔ (meaning s ≡ meaning t)
@@ -327,7 +364,7 @@ module _ (s t : List ℕ) (x y : Sheet) (e : readSheet s ≡ accepted x) (f : re
       forward q = sym (output-means s x e b) ∙ ap meaning q ∙ output-means t y f c
 
       back : meaning s ≡ meaning t → canonical s ≡ canonical t
-      back m = same-bytes (header-equal m .0) (header-equal m .1) (tables-equal m)
+      back m = same-bytes (versions-equal m) (header-equal m .0) (header-equal m .1) (tables-equal m)
 
 -- ---- one of them again
 

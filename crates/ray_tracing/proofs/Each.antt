@@ -5,7 +5,9 @@ use mathlib.Core.Path.{_≡_, refl}
 use mathlib.Core.Bool.{true}
 use lib.Dec.{ltb}
 use borrow.Author.Tests.{ltb-true}
-use Rattle.ray_tracing.specs.Layout.{size}
+use Rattle.ray_tracing.specs.declared.Version.{Version}
+use Rattle.ray_tracing.specs.declared.Version.the-variants as version
+use Rattle.ray_tracing.specs.Layout.{sizeIn}
 
 abbrev pub Each : (ℕ → Type 0) → ℕ → Type 0
 Each P zero = Unit {0}
@@ -16,7 +18,10 @@ each P zero e k h = absurd (not-suc-le-zero h)
 each P (suc n) e zero h = e .0
 each P (suc n) e (suc k) h = each (λ (j : ℕ). P (suc j)) n (e .1) k (le-of-suc-le-suc h)
 
-pub size-positive : (k : ℕ) → k < 10 → 0 < size k
-size-positive k h =
-    ltb-true 0 (size k)
-    (each (λ (j : ℕ). ltb 0 (size j) ≡ true) 10 (refl, (refl, (refl, (refl, (refl, (refl, (refl, (refl, (refl, (refl, tt)))))))))) k h)
+pub size-positive : (v : Version) (k : ℕ) → k < 10 → 0 < sizeIn v k
+size-positive version.One k h =
+    ltb-true 0 (sizeIn version.One k)
+    (each (λ (j : ℕ). ltb 0 (sizeIn version.One j) ≡ true) 10 (refl, (refl, (refl, (refl, (refl, (refl, (refl, (refl, (refl, (refl, tt)))))))))) k h)
+size-positive version.Two k h =
+    ltb-true 0 (sizeIn version.Two k)
+    (each (λ (j : ℕ). ltb 0 (sizeIn version.Two j) ≡ true) 10 (refl, (refl, (refl, (refl, (refl, (refl, (refl, (refl, (refl, (refl, tt)))))))))) k h)

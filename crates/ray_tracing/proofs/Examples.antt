@@ -5,9 +5,10 @@ use mathlib.Core.Option.{none}
 use mathlib.Core.List.{List, [], _∷_, _++_}
 use lib.ListN.{length, getD, replicate}
 use Rattle.wire.specs.Wire.{leAt, leBytes}
+use Rattle.ray_tracing.specs.declared.Version.the-variants as version
 use Rattle.ray_tracing.specs.Guard.{refuse}
 use Rattle.ray_tracing.specs.Layout.{Field, layout}
-use Rattle.ray_tracing.specs.Reading.{judgeFields, judgeRecords, judgeDrawn, sumOfCounts, judgeLent, past, from, judgeSection, judgeSections, judgeSheet, readSheet}
+use Rattle.ray_tracing.specs.Reading.{judgeFields, judgeRecords, judgeDrawn, sumOfCounts, judgeLent, versionIn, past, from, judgeSection, judgeSections, judgeSheet, readSheet}
 use Rattle.ray_tracing.specs.Causes.{Cause, cause, bare}
 use Rattle.ray_tracing.specs.Instances.{presentOf, slotsBytes, slotBytes, instanceBytes, instanceFrom, words, patterns, wordsAt}
 use Rattle.ray_tracing.specs.Plan.{Tables, tablesOf, Building, recorded, not-built, planOf, build, firstOf, firstDrawing, declaredFrom, judgeTables, judgeIds, judgeEntries, judgePackages, totalFrom, offsetsFrom, scratchSize, judgeScratch, judgeFinal, stagingFrom, rangesOfEntry, rangesFrom, compactableFrom, entryBlases, dependenciesFrom, packageLists}
@@ -47,7 +48,7 @@ of k vs = bytesOf (layout k .fields) vs
 
 abbrev pub tables : List ℕ → List ℕ → List ℕ → List ℕ → List ℕ → List ℕ → List ℕ → List ℕ → Tables
 tables buffers blases declared tlases entries geometries packages slots =
-    tablesOf 256 buffers blases declared tlases entries geometries packages slots
+    tablesOf version.One 256 buffers blases declared tlases entries geometries packages slots
 
 -- a Blas of a kind with flags and scratch
 abbrev pub blas : ℕ → ℕ → ℕ → List ℕ
@@ -189,6 +190,6 @@ workedTables k =
 abbrev pub workedText : List ℕ
 workedText = ascii "build 0 0 0 0 0 0\nscratch 512\nblas 0 0\ntlas 0 0 0 64\nsubmit 0 0 0 0\nnext 2\n"
 
-pub worked : report (sheetBytes 256 1 workedTables) ≡ workedText
-unfolding leAt leBytes refuse judgeFields judgeRecords judgeDrawn sumOfCounts judgeLent presentOf slotsBytes slotBytes instanceBytes instanceFrom words patterns wordsAt planOf build firstOf firstDrawing declaredFrom judgeTables judgeIds judgeEntries judgePackages totalFrom offsetsFrom scratchSize judgeScratch judgeFinal stagingFrom rangesOfEntry rangesFrom compactableFrom entryBlases dependenciesFrom packageLists blasIn tlasIn listIn judge judgeLists packagesAt packagesLent action decodeCells before builtBlas builtBlases builtTlas buildTlases act step run submission past from judgeSection judgeSections judgeSheet readSheet sectionBytes sheetBytes digits spaced line blasLines tlasLines actionCells positions submitLines builtLines report
+pub worked : report (sheetBytes version.One 256 1 workedTables) ≡ workedText
+unfolding leAt leBytes refuse judgeFields judgeRecords judgeDrawn sumOfCounts judgeLent presentOf slotsBytes slotBytes instanceBytes instanceFrom words patterns wordsAt planOf build firstOf firstDrawing declaredFrom judgeTables judgeIds judgeEntries judgePackages totalFrom offsetsFrom scratchSize judgeScratch judgeFinal stagingFrom rangesOfEntry rangesFrom compactableFrom entryBlases dependenciesFrom packageLists blasIn tlasIn listIn judge judgeLists packagesAt packagesLent action decodeCells before builtBlas builtBlases builtTlas buildTlases act step run submission versionIn past from judgeSection judgeSections judgeSheet readSheet sectionBytes sheetBytes digits spaced line blasLines tlasLines actionCells positions submitLines builtLines report
 worked = refl

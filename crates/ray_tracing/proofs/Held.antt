@@ -9,7 +9,8 @@ use lib.Dec.{eqb}
 use lib.ListN.{length, take, drop, length-append, length-drop}
 use lib.Seq.{length-take-le, take-append-le, drop-append-le, take-at, drop-at, drop-drop}
 use Rattle.wire.specs.Wire.{leAt}
-use Rattle.ray_tracing.specs.Layout.{Seen, Field, layout, total, size}
+use Rattle.ray_tracing.specs.declared.Version.{Version}
+use Rattle.ray_tracing.specs.Layout.{Seen, Field, geometries, total, size, sizeIn}
 use Rattle.ray_tracing.specs.Reading.{fine, judgeFields, judgeRecords, judgeDrawn, sumOfCounts, begin, ofBoxes, drawnCount}
 use Rattle.ray_tracing.specs.Meaning.{Held, recordsFrom, drawnFrom, ofBlas, byBlas, recordMeaning}
 use Rattle.ray_tracing.specs.Canonical.{canonicalRecord}
@@ -111,41 +112,41 @@ module _ (fs : List Field) where
     records-seen (suc n) s = (refl, records-seen n (drop (total fs) s))
 
 -- the geometries that entries draw
-abbrev geometryFields : List Field
-geometryFields = layout 6 .fields
+abbrev geometryFields : Version → List Field
+geometryFields v = geometries v .fields
 
-module _ (t : List ℕ) where
+module _ (v : Version) (t : List ℕ) where
   pub drawn-each :
       (n q : ℕ) (s : List ℕ) (at : ℕ)
       → at ≤ length s
-      → judgeDrawn geometryFields t q s at n ≡ fine
-      → All (Fine geometryFields) (drawnFrom t q (drop at s) n)
+      → judgeDrawn (geometryFields v) t q s at n ≡ fine
+      → All (Fine (geometryFields v)) (drawnFrom v t q (drop at s) n)
   unfolding judgeDrawn drawnFrom
   drawn-each zero q s at h e = tt
   drawn-each (suc n) q s at h e =
       let c = begin (size 5) t (ofBoxes t q) in
-      let x = or-fine (judgeRecords c geometryFields s at (drawnCount t q)) _ e in
-      let w = records-whole c geometryFields s (drawnCount t q) at h (x .0) in
-      all-append (Fine geometryFields) (recordsFrom c (size 6) (drop at s) (drawnCount t q)) _
-      (records-each geometryFields c (drawnCount t q) s at h (x .0))
-      (rw drop-drop (drawn-each n (q + size 5) s (at + drawnCount t q * size 6) w (x .1)))
+      let x = or-fine (judgeRecords c (geometryFields v) s at (drawnCount t q)) _ e in
+      let w = records-whole c (geometryFields v) s (drawnCount t q) at h (x .0) in
+      all-append (Fine (geometryFields v)) (recordsFrom c (sizeIn v 6) (drop at s) (drawnCount t q)) _
+      (records-each (geometryFields v) c (drawnCount t q) s at h (x .0))
+      (rw drop-drop (drawn-each n (q + size 5) s (at + drawnCount t q * sizeIn v 6) w (x .1)))
 
   pub drawn-all :
       (n q : ℕ) (s : List ℕ) (at : ℕ)
-      → at + sumOfCounts t (size 5) (q + 3) n * size 6 ≤ length s
-      → All (Fine geometryFields) (drawnFrom t q (drop at s) n)
-      → judgeDrawn geometryFields t q s at n ≡ fine
+      → at + sumOfCounts t (size 5) (q + 3) n * sizeIn v 6 ≤ length s
+      → All (Fine (geometryFields v)) (drawnFrom v t q (drop at s) n)
+      → judgeDrawn (geometryFields v) t q s at n ≡ fine
   unfolding judgeDrawn drawnFrom sumOfCounts
   drawn-all zero q s at h a = refl
   drawn-all (suc n) q s at h a =
       let c = begin (size 5) t (ofBoxes t q) in
       let e : q + 3 + 5 ≡ q + 5 + 3 = omega arith in
       let h′ = rw e at h in
-      let xs = recordsFrom c (size 6) (drop at s) (drawnCount t q) in
-      let ys = drawnFrom t (q + size 5) (drop (drawnCount t q * size 6) (drop at s)) n in
-      rw (records-all geometryFields c (drawnCount t q) s at (omega arith) (all-left (Fine geometryFields) xs ys a))
-      (drawn-all n (q + size 5) s (at + drawnCount t q * size 6) (omega arith)
-      (rw drop-drop at (all-right (Fine geometryFields) xs ys a)))
+      let xs = recordsFrom c (sizeIn v 6) (drop at s) (drawnCount t q) in
+      let ys = drawnFrom v t (q + size 5) (drop (drawnCount t q * sizeIn v 6) (drop at s)) n in
+      rw (records-all (geometryFields v) c (drawnCount t q) s at (omega arith) (all-left (Fine (geometryFields v)) xs ys a))
+      (drawn-all n (q + size 5) s (at + drawnCount t q * sizeIn v 6) (omega arith)
+      (rw drop-drop at (all-right (Fine (geometryFields v)) xs ys a)))
 
 -- the records of a table are as long as they are asked to be, if it has so many
 pub records-sized :
@@ -166,19 +167,19 @@ records-first c w (suc n) u r h =
     rw (take-append-le w u r (omega arith), drop-append-le w u r (omega arith), records-first c w n (drop w u) r (rw length-drop (omega arith)))
 
 pub drawn-first :
-    (t : List ℕ) (n q : ℕ) (u r : List ℕ)
-    → sumOfCounts t (size 5) (q + 3) n * size 6 ≤ length u
-    → drawnFrom t q (u ++ r) n ≡ drawnFrom t q u n
+    (v : Version) (t : List ℕ) (n q : ℕ) (u r : List ℕ)
+    → sumOfCounts t (size 5) (q + 3) n * sizeIn v 6 ≤ length u
+    → drawnFrom v t q (u ++ r) n ≡ drawnFrom v t q u n
 unfolding drawnFrom sumOfCounts
-drawn-first t zero q u r h = refl
-drawn-first t (suc n) q u r h =
+drawn-first v t zero q u r h = refl
+drawn-first v t (suc n) q u r h =
     let m = drawnCount t q in
     let e : q + 3 + 5 ≡ q + 5 + 3 = omega arith in
     let h′ = rw e at h in
     rw (
-      records-first (begin (size 5) t (ofBoxes t q)) (size 6) m u r (omega arith),
-      drop-append-le (m * size 6) u r (omega arith),
-      drawn-first t n (q + size 5) (drop (m * size 6) u) r (rw length-drop (omega arith)),
+      records-first (begin (size 5) t (ofBoxes t q)) (sizeIn v 6) m u r (omega arith),
+      drop-append-le (m * sizeIn v 6) u r (omega arith),
+      drawn-first v t n (q + size 5) (drop (m * sizeIn v 6) u) r (rw length-drop (omega arith)),
     )
 
 -- what g makes of each, w bytes each
@@ -240,24 +241,24 @@ module _ (fs : List Field) where
 
 -- the geometries that entries draw
 pub cut-drawn :
-    (t : List ℕ) (n q : ℕ) (s rest : List ℕ)
-    → All (Fine geometryFields) (drawnFrom t q s n)
-    → drawnFrom t q (flatten (map (bytesIn geometryFields) (drawnFrom t q s n)) ++ rest) n
-    ≡ map (remade geometryFields) (drawnFrom t q s n)
+    (v : Version) (t : List ℕ) (n q : ℕ) (s rest : List ℕ)
+    → All (Fine (geometryFields v)) (drawnFrom v t q s n)
+    → drawnFrom v t q (flatten (map (bytesIn (geometryFields v)) (drawnFrom v t q s n)) ++ rest) n
+    ≡ map (remade (geometryFields v)) (drawnFrom v t q s n)
 unfolding drawnFrom
-cut-drawn t zero q s rest a = refl
-cut-drawn t (suc n) q s rest a =
+cut-drawn v t zero q s rest a = refl
+cut-drawn v t (suc n) q s rest a =
     let c = begin (size 5) t (ofBoxes t q) in
-    let xs = recordsFrom c (size 6) s (drawnCount t q) in
-    let ys = drawnFrom t (q + size 5) (drop (drawnCount t q * size 6) s) n in
-    let f : List Held → List ℕ = λ l. flatten (map (bytesIn geometryFields) l) in
-    let a₁ = all-left (Fine geometryFields) xs ys a in
-    let m : length xs ≡ drawnCount t q = records-count geometryFields c (drawnCount t q) s in
+    let xs = recordsFrom c (sizeIn v 6) s (drawnCount t q) in
+    let ys = drawnFrom v t (q + size 5) (drop (drawnCount t q * sizeIn v 6) s) n in
+    let f : List Held → List ℕ = λ l. flatten (map (bytesIn (geometryFields v)) l) in
+    let a₁ = all-left (Fine (geometryFields v)) xs ys a in
+    let m : length xs ≡ drawnCount t q = records-count (geometryFields v) c (drawnCount t q) s in
     let e : f (xs ++ ys) ++ rest ≡ f xs ++ (f ys ++ rest) =
-    rw (flatten-map (bytesIn geometryFields) xs ys) (append-assoc (f xs) (f ys) rest) in
-    let l : length (f xs) ≡ drawnCount t q * size 6 = bytes-length geometryFields xs a₁ ∙ ap (λ (k : ℕ). k * size 6) m in
-    let r : recordsFrom c (size 6) (f xs ++ (f ys ++ rest)) (drawnCount t q) ≡ map (remade geometryFields) xs =
-    subst (λ (k : ℕ). recordsFrom c (size 6) (f xs ++ (f ys ++ rest)) k ≡ map (remade geometryFields) xs) m
-    (cut geometryFields c xs (f ys ++ rest) (records-seen geometryFields c (drawnCount t q) s) a₁) in
-    rw (e, r, drop-at (f xs) (f ys ++ rest) (drawnCount t q * size 6) l, cut-drawn t n (q + size 5) (drop (drawnCount t q * size 6) s) rest (all-right (Fine geometryFields) xs ys a))
-    (sym (map-append (remade geometryFields) xs ys))
+    rw (flatten-map (bytesIn (geometryFields v)) xs ys) (append-assoc (f xs) (f ys) rest) in
+    let l : length (f xs) ≡ drawnCount t q * sizeIn v 6 = bytes-length (geometryFields v) xs a₁ ∙ ap (λ (k : ℕ). k * sizeIn v 6) m in
+    let r : recordsFrom c (sizeIn v 6) (f xs ++ (f ys ++ rest)) (drawnCount t q) ≡ map (remade (geometryFields v)) xs =
+    subst (λ (k : ℕ). recordsFrom c (sizeIn v 6) (f xs ++ (f ys ++ rest)) k ≡ map (remade (geometryFields v)) xs) m
+    (cut (geometryFields v) c xs (f ys ++ rest) (records-seen (geometryFields v) c (drawnCount t q) s) a₁) in
+    rw (e, r, drop-at (f xs) (f ys ++ rest) (drawnCount t q * sizeIn v 6) l, cut-drawn v t n (q + size 5) (drop (drawnCount t q * sizeIn v 6) s) rest (all-right (Fine (geometryFields v)) xs ys a))
+    (sym (map-append (remade (geometryFields v)) xs ys))

@@ -9,7 +9,7 @@ use lib.ListN.{length}
 use lib.Dec.{eqb, ltb}
 use borrow.Author.Tests.{eqb-true, eqb-false, ltb-true, ltb-false, leb-true, not-false, eq-eqb, ne-eqb}
 use Rattle.wire.specs.Wire.{leAt}
-use Rattle.ray_tracing.specs.Layout.{Seen, Field, Layout, layout, size, total, fits}
+use Rattle.ray_tracing.specs.Layout.{Seen, Field, Layout, layout, layoutIn, size, sizeIn, total, fits}
 use Rattle.ray_tracing.specs.Records.{fieldAt}
 use Rattle.ray_tracing.specs.Reading.{sumOfCounts, judgeField, judgeFields, judgeRecords, judgeTable, judgeLent, begin, byRecord, addsUp}
 use Rattle.ray_tracing.specs.Reading as reading
@@ -57,7 +57,7 @@ Named id n = (id ≡ 65535 → ⊥) → id < n
 pub record Inside (x : Tables) : Type 0 where
   pub aligned : 1 ≤ x .alignment
   -- limits
-  pub most : (k : ℕ) → 1 ≤ k → k ≤ 8 → recordsIn x k ≤ layout k .most
+  pub most : (k : ℕ) → 1 ≤ k → k ≤ 8 → recordsIn x k ≤ layoutIn (x .version) k .most
   -- a declared geometry's Blas
   pub declared-blas : (d : ℕ) → d < recordsIn x 3 → fieldAt 3 (x .declared) (d * size 3) 0 < recordsIn x 2
   -- entries, and the geometries that they draw
@@ -213,17 +213,17 @@ module _ (x : Tables) (t : judgeTables x ≡ passed) where
       let y = or-passed (on (eqb (x .alignment) 0) _) _ t in
       (on-passed (eqb (x .alignment) 0) 0 0 _ (y .0), y .1)
 
-  lent-fine : (k : ℕ) → k < 8 → judgeLent (1 + k) (layout (1 + k)) (size (1 + k - 1)) (tableOf x (1 + k - 1)) (tableOf x (1 + k)) ≡ reading.fine
+  lent-fine : (k : ℕ) → k < 8 → judgeLent (1 + k) (layoutIn (x .version) (1 + k)) (sizeIn (x .version) (1 + k - 1)) (tableOf x (1 + k - 1)) (tableOf x (1 + k)) ≡ reading.fine
   lent-fine k h = section-passed (1 + k) _ (each-passed (judgeLentSection x) 8 1 (table-parts .1) k h)
 
-  tables-most : (k : ℕ) → 1 ≤ k → k ≤ 8 → recordsIn x k ≤ layout k .most
+  tables-most : (k : ℕ) → 1 ≤ k → k ≤ 8 → recordsIn x k ≤ layoutIn (x .version) k .most
   tables-most k a b =
       let e : 1 + (k - 1) ≡ k = omega arith in
-      rw e at (lent-parts (1 + (k - 1)) (layout (1 + (k - 1))) _ _ _ (lent-fine (k - 1) (omega arith)) .0)
+      rw e at (lent-parts (1 + (k - 1)) (layoutIn (x .version) (1 + (k - 1))) _ _ _ (lent-fine (k - 1) (omega arith)) .0)
 
   pub tables-drawn : drawnBefore x (recordsIn x 5) ≡ recordsIn x 6
   unfolding drawnBefore
-  tables-drawn = eqb-true _ (recordsIn x 6) (lent-parts 6 (layout 6) _ _ _ (lent-fine 5 (omega arith)) .1)
+  tables-drawn = eqb-true _ (recordsIn x 6) (lent-parts 6 (layoutIn (x .version) 6) _ _ _ (lent-fine 5 (omega arith)) .1)
 
   pub tables-slots : slotsBefore x (recordsIn x 7) ≡ recordsIn x 8
   unfolding slotsBefore

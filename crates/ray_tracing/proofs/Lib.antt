@@ -1,5 +1,6 @@
 pub mod Guard
 pub mod Each
+pub mod Versions
 pub mod Reading
 pub mod Windows
 pub mod Numbers

@@ -12,17 +12,25 @@ use lib.ListN.{length, take}
 use lib.Seq.{take-all, length-take-le}
 use borrow.Author.Tests.{lt-ltb, le-ltb, leb-true, leb-false}
 use Rattle.wire.specs.Wire.{leAt}
+use Rattle.ray_tracing.specs.declared.Version.{Version}
+use Rattle.ray_tracing.specs.declared.Version.the-variants as version
 use Rattle.ray_tracing.specs.declared.Sheet.{Sheet}
-use Rattle.ray_tracing.specs.Layout.{layout, size}
-use Rattle.ray_tracing.specs.Reading.{Judged, fine, refused, judgedWhen, _andNext_, judgeRecords, begin, past, from, judgeSection, judgeSections, judgeSheet, sheetOf, accepted, answer, readSheet}
-use Rattle.ray_tracing.specs.Sizes.{longest, sectionsUpTo}
+use Rattle.ray_tracing.specs.Layout.{layout, layoutIn, size, sizeIn}
+use Rattle.ray_tracing.specs.Reading.{Judged, fine, refused, judgedWhen, _andNext_, judgeRecords, begin, versionIn, past, from, judgeSection, judgeSections, taken, judgeSheet, sheetOf, accepted, answer, readSheet}
+use Rattle.ray_tracing.specs.Sizes.{longest, longestOf, sectionsUpTo}
 use Rattle.ray_tracing.proofs.Reading.{refused-not-fine, section-most, past-more, from-more}
 use Rattle.ray_tracing.proofs.Sheets.{accepted-judged}
 use Rattle.ray_tracing.proofs.Windows.{Window, moved-none, window-part, le-window, records-window, section-window}
 
-pub longest-is : longest ≡ 56415
+pub longest-are : (longestOf version.One ≡ 56415) × (longest ≡ 57439)
 unfolding sectionsUpTo
-longest-is = refl
+longest-are = (refl, refl)
+
+-- none is longer than one of version 2
+longest-of : (v : Version) → longestOf v ≤ longest
+unfolding sectionsUpTo
+longest-of version.One = omega arith
+longest-of version.Two = omega arith
 
 -- ---- two that refuse alike
 
@@ -45,19 +53,19 @@ alike-answer a b alike = refl
 
 -- ---- where sections end
 
--- at most, section k
-abbrev end : ℕ → ℕ
-end k = 1 + size 0 + sectionsUpTo k
+-- at most, section k of a version
+abbrev end : Version → ℕ → ℕ
+end v k = 1 + size 0 + sectionsUpTo v k
 
-end-more : (k : ℕ) → end (k + 1) ≡ end k + 2 + layout (k + 1) .most * size (k + 1)
+end-more : (v : Version) (k : ℕ) → end v (k + 1) ≡ end v k + 2 + layoutIn v (k + 1) .most * sizeIn v (k + 1)
 unfolding sectionsUpTo
-end-more k = ap end (add-one k) ∙ omega arith
+end-more v k = ap (end v) (add-one k) ∙ omega arith
 
-end-up : (n k : ℕ) → end k ≤ end (k + n)
-end-up zero k = simp add-zero (omega arith)
-end-up (suc n) k =
+end-up : (v : Version) (n k : ℕ) → end v k ≤ end v (k + n)
+end-up v zero k = simp add-zero (omega arith)
+end-up v (suc n) k =
     let e : k + suc n ≡ k + 1 + n = omega arith in
-    rw e (omega (arith, end-more k, end-up n (k + 1)))
+    rw e (omega (arith, end-more v k, end-up v n (k + 1)))
 
 -- ---- a list that is longer, and a part of it from the start on that is longer too
 
@@ -66,30 +74,34 @@ record Reached (t s : List ℕ) (k : ℕ) : Type 0 where
   ends : past t k ≡ past s k
   begins : from t k ≡ from s k
   ordered : from s k ≤ past s k
-  near : past s k ≤ end k
+  near : past s k ≤ end (versionIn s) k
 
 module _ {t s : List ℕ} (w : Window 0 t s) (h : longest < length t) where
+  same-version : versionIn s ≡ versionIn t
+  unfolding versionIn
+  same-version = rw (le-window w 1 0 (omega arith))
+
   reached : Reached t s 0
   unfolding past from sectionsUpTo
   reached = record { ends = refl; begins = refl; ordered = omega arith; near = omega arith }
 
-  module _ (k : ℕ) (r : Reached t s k) (l : end (k + 1) ≤ longest) where
+  module _ (k : ℕ) (r : Reached t s k) (l : end (versionIn s) (k + 1) ≤ longest) where
     same-count : leAt 2 t (past t k) ≡ leAt 2 s (past s k)
-    same-count = rw (r .ends) (sym (rw zero-add at (le-window w 2 (past s k) (omega (arith, end-more k, r .near)))))
+    same-count = rw (r .ends) (sym (rw zero-add at (le-window w 2 (past s k) (omega (arith, end-more (versionIn s) k, r .near)))))
 
     same-section : judgeSection s k (from s k) (past s k) ≡ judgeSection t k (from t k) (past t k)
     same-section =
         rw (r .begins, r .ends)
-        (simp (zero-add, moved-none) at (section-window w k (from s k) (past s k) (r .ordered) (omega (arith, end-more k, r .near))))
+        (simp (zero-add, moved-none) at (section-window w k (from s k) (past s k) same-version (r .ordered) (rw (← same-version) (omega (arith, end-more (versionIn s) k, r .near)))))
 
     reached-more : judgeSection s k (from s k) (past s k) ≡ fine → Reached t s (k + 1)
     reached-more f =
-        let m = mul-le-mul-right (size (k + 1)) (section-most s k (from s k) (past s k) f) in
+        let m = mul-le-mul-right (sizeIn (versionIn s) (k + 1)) (section-most s k (from s k) (past s k) f) in
         record {
-          ends = rw (past-more, past-more, same-count, r .ends);
+          ends = rw (past-more, past-more, same-count, r .ends, same-version);
           begins = rw (from-more, from-more, r .ends);
           ordered = rw (past-more, from-more) (omega arith);
-          near = rw past-more (omega (arith, end-more k, r .near));
+          near = rw past-more (omega (arith, end-more (versionIn s) k, r .near));
         }
 
   sections-alike :
@@ -103,11 +115,11 @@ module _ {t s : List ℕ} (w : Window 0 t s) (h : longest < length t) where
   sections-alike zero k e r =
       let z : k ≡ 9 = omega arith in
       let q = rw z at r in
-      rw (q .ends, lt-ltb (past s 9) (length s) (omega (arith, q .near, w .inside)), lt-ltb (past s 9) (length t) (omega (arith, q .near)))
+      rw (q .ends, lt-ltb (past s 9) (length s) (omega (arith, longest-of (versionIn s), q .near, w .inside)), lt-ltb (past s 9) (length t) (omega (arith, longest-of (versionIn s), q .near)))
       alike
   sections-alike (suc n) k e r =
       let z : k + 1 + n ≡ 9 = omega arith in
-      let l : end (k + 1) ≤ longest = rw z at (end-up n (k + 1)) in
+      let l : end (versionIn s) (k + 1) ≤ longest = omega (arith, longest-of (versionIn s), rw z at (end-up (versionIn s) n (k + 1))) in
       rw (or-assoc, or-assoc, ← same-section k r l)
       (alike-or (judgeSection s k (from s k) (past s k)) (λ f. sections-alike n (k + 1) z (reached-more k r l f)))
 
@@ -121,7 +133,7 @@ module _ {t s : List ℕ} (w : Window 0 t s) (h : longest < length t) where
         records-window w (layout 0 .fields) (begin 0 [] false) 1 1 (omega arith),
         moved-none,
       )
-      (alike-or (judgedWhen (not (eqb (leAt 1 t 0) 1)) (refused 1 0))
+      (alike-or (judgedWhen (not (taken (leAt 1 t 0))) (refused 1 0))
       (λ e. alike-or (judgeRecords (begin 0 [] false) (layout 0 .fields) t 1 1) (λ f. sections-alike 9 0 refl reached)))
 
   pub longer : readSheet s ≡ readSheet t

@@ -3,6 +3,7 @@ use Prim.Native.Nat.{ℕ, _-_, _^_}
 use mathlib.Core.Path.{_≡_, refl}
 use mathlib.Core.List.{List, [], _∷_, _++_}
 use Rattle.wire.specs.Wire.{leAt, leBytes}
+use Rattle.ray_tracing.specs.declared.Version.the-variants as version
 use Rattle.ray_tracing.specs.Guard.{refuse}
 use Rattle.ray_tracing.specs.Reading.{judgeFields, judgeRecords, judgeDrawn, sumOfCounts, judgeLent}
 use Rattle.ray_tracing.specs.Causes.{cause}
@@ -28,7 +29,7 @@ of-tlas id = of 7 (id ∷ 0 ∷ [])
 -- entries of three Blases with these scratch sizes, and packages of two Tlases
 abbrev pub scratches : ℕ → ℕ → ℕ → ℕ → ℕ → ℕ → ℕ → Tables
 scratches alignment a b c t u destroyed =
-    tablesOf alignment [] (blas 0 0 a ++ (blas 0 0 b ++ blas 0 0 c)) [] (tlas t destroyed ++ tlas u destroyed)
+    tablesOf version.One alignment [] (blas 0 0 a ++ (blas 0 0 b ++ blas 0 0 c)) [] (tlas t destroyed ++ tlas u destroyed)
     (entry 0 0 0 ++ (entry 1 0 0 ++ entry 2 0 0)) [] (of-tlas 0 ++ of-tlas 1) []
 
 -- an entry; a package

@@ -10,7 +10,7 @@ use lib.Dec.{eqb, ltb}
 use lib.ListN.{length, take, drop}
 use borrow.Author.Tests.{eqb-true, ltb-false, not-false}
 use Rattle.wire.specs.Wire.{leAt}
-use Rattle.ray_tracing.specs.Layout.{Seen, Field, layout, size, total}
+use Rattle.ray_tracing.specs.Layout.{Seen, Field, layoutIn, size, sizeIn, total}
 use Rattle.ray_tracing.specs.Reading.{
   Judged,
   fine,
@@ -27,6 +27,7 @@ use Rattle.ray_tracing.specs.Reading.{
   judgeTable,
   sumOfCounts,
   addsUp,
+  versionIn,
   past,
   from,
   judgeSection,
@@ -159,34 +160,34 @@ module _ (s : List ℕ) (k a p : ℕ) (f : judgeSection s k a p ≡ fine) where
 
   parts :
       (judgedWhen (ltb (length s) (p + 2)) (refused 2 p) ≡ fine)
-      × ((judgedWhen (ltb (layout (k + 1) .most) (leAt 2 s p)) (refused 4 p) ≡ fine)
+      × ((judgedWhen (ltb (layoutIn (versionIn s) (k + 1) .most) (leAt 2 s p)) (refused 4 p) ≡ fine)
       × ((judgedWhen (not (addsUp (k + 1) before (leAt 2 s p))) (refused 5 p) ≡ fine)
-      × (judgeTable (k + 1) (layout (k + 1) .fields) (size k) before s (p + 2) (leAt 2 s p) ≡ fine)))
+      × (judgeTable (k + 1) (layoutIn (versionIn s) (k + 1) .fields) (sizeIn (versionIn s) k) before s (p + 2) (leAt 2 s p) ≡ fine)))
   unfolding judgeSection
   parts =
       let x = or-fine (judgedWhen (ltb (length s) (p + 2)) (refused 2 p)) _ f in
-      let y = or-fine (judgedWhen (ltb (layout (k + 1) .most) (leAt 2 s p)) (refused 4 p)) _ (x .1) in
+      let y = or-fine (judgedWhen (ltb (layoutIn (versionIn s) (k + 1) .most) (leAt 2 s p)) (refused 4 p)) _ (x .1) in
       let z = or-fine (judgedWhen (not (addsUp (k + 1) before (leAt 2 s p))) (refused 5 p)) _ (y .1) in
       (x .0, (y .0, (z .0, z .1)))
 
   pub section-count : p + 2 ≤ length s
   section-count = ltb-false (length s) (p + 2) (on-fine _ 2 p (parts .0))
 
-  pub section-most : leAt 2 s p ≤ layout (k + 1) .most
-  section-most = ltb-false (layout (k + 1) .most) (leAt 2 s p) (on-fine _ 4 p (parts .1 .0))
+  pub section-most : leAt 2 s p ≤ layoutIn (versionIn s) (k + 1) .most
+  section-most = ltb-false (layoutIn (versionIn s) (k + 1) .most) (leAt 2 s p) (on-fine _ 4 p (parts .1 .0))
 
   pub section-adds-up : addsUp (k + 1) before (leAt 2 s p) ≡ true
   section-adds-up = not-false _ (on-fine _ 5 p (parts .1 .1 .0))
 
-  pub section-table : judgeTable (k + 1) (layout (k + 1) .fields) (size k) before s (p + 2) (leAt 2 s p) ≡ fine
+  pub section-table : judgeTable (k + 1) (layoutIn (versionIn s) (k + 1) .fields) (sizeIn (versionIn s) k) before s (p + 2) (leAt 2 s p) ≡ fine
   section-table = parts .1 .1 .1
 
-  pub section-whole : p + 2 + leAt 2 s p * size (k + 1) ≤ length s
-  section-whole = table-whole (k + 1) (layout (k + 1) .fields) (size k) before s (p + 2) (leAt 2 s p) section-count section-adds-up section-table
+  pub section-whole : p + 2 + leAt 2 s p * sizeIn (versionIn s) (k + 1) ≤ length s
+  section-whole = table-whole (k + 1) (layoutIn (versionIn s) (k + 1) .fields) (sizeIn (versionIn s) k) before s (p + 2) (leAt 2 s p) section-count section-adds-up section-table
 
 -- one section more
 
-pub past-more : (s : List ℕ) (k : ℕ) → past s (k + 1) ≡ past s k + 2 + leAt 2 s (past s k) * size (k + 1)
+pub past-more : (s : List ℕ) (k : ℕ) → past s (k + 1) ≡ past s k + 2 + leAt 2 s (past s k) * sizeIn (versionIn s) (k + 1)
 unfolding past
 past-more s k = ap (λ (j : ℕ). past s j) (add-one k)
 

@@ -12,7 +12,9 @@ use lib.ListN.{length, take, drop, length-take, List·getD-eq-default}
 use lib.Seq.{take-take, take-add, take-all, getD-take, getD-drop}
 use Rattle.wire.specs.Wire.{leAt}
 use Rattle.wire.proofs.Laws.{le-append-left, le-take}
-use Rattle.ray_tracing.specs.Layout.{Seen, Field, layout, total, size}
+use Rattle.ray_tracing.specs.declared.Version.{Version}
+use Rattle.ray_tracing.specs.declared.Version.the-variants as version
+use Rattle.ray_tracing.specs.Layout.{Seen, Field, layout, layoutIn, total, size, sizeIn}
 use Rattle.ray_tracing.specs.Reading.{fine, judgeLent, begin, ofBoxes, drawnCount}
 use Rattle.ray_tracing.specs.Meaning.{Held, recordsFrom, drawnFrom, recordsOf, ofBlas, byBlas, declaredLists, heldMeaning}
 use Rattle.ray_tracing.specs.Canonical.{canonicalRecord, inOrder, canonicalTable}
@@ -52,9 +54,9 @@ records-joined fs u c (suc n) s =
     rw (used-kept fs u c (take (total fs) s), take-take (total fs) (total fs) s (omega arith), records-joined fs u c n (drop (total fs) s), suc-mul)
     (sym (take-add (total fs) (n * total fs) s) ∙ ap (λ (m : ℕ). take m s) e)
 
-used-fields : (k : ℕ) → k < 10 → mayBeUnused k ≡ false → AllUsed (layout k .fields)
-used-fields =
-    each (λ (k : ℕ). mayBeUnused k ≡ false → AllUsed (layout k .fields)) 10 (
+used-fields : (v : Version) (k : ℕ) → k < 10 → mayBeUnused k ≡ false → AllUsed (layoutIn v k .fields)
+used-fields v =
+    each (λ (k : ℕ). mayBeUnused k ≡ false → AllUsed (layoutIn v k .fields)) 10 (
       (λ e. (yes′, (yes′, tt))),
       (
         (λ e. (yes′, (yes′, tt))),
@@ -88,28 +90,33 @@ or-false false b e = (refl, e)
 or-false true b e = absurd (true≢false e)
 
 pub used-table :
-    (k : ℕ)
+    (v : Version) (k : ℕ)
     → k < 10
     → mayBeUnused k ≡ false
     → (t s : List ℕ)
-    → judgeLent k (layout k) (size (k - 1)) t s ≡ fine
-    → canonicalTable k t s ≡ s
+    → judgeLent k (layoutIn v k) (sizeIn v (k - 1)) t s ≡ fine
+    → canonicalTable v k t s ≡ s
 unfolding canonicalTable
-used-table k h u t s f =
+used-table v k h u t s f =
     let a = or-false (eqb k 3) _ u in
     let b = or-false (eqb k 6) _ (a .1) in
-    let l = lent-tells k (layout k) (size (k - 1)) t s f in
-    let n = length s / size k in
-    rw (a .0, b .0, records-joined (layout k .fields) (used-fields k h u) (begin (size (k - 1)) t false) n s)
-    (take-all (n * size k) s (omega (arith, l .whole, div-add-mod' (length s) (size k))))
+    let l = lent-tells k (layoutIn v k) (sizeIn v (k - 1)) t s f in
+    let n = length s / sizeIn v k in
+    let c = begin (sizeIn v (k - 1)) t false in
+    let o : inOrder v k t s ≡ recordsFrom c (sizeIn v k) s n =
+    ap (λ (x : Bool). cond x (flatten (declaredLists t s)) (recordsOf v k t s)) (a .0)
+    ∙ ap (λ (x : Bool). cond x (drawnFrom v t 0 s (length t / size 5)) (recordsFrom c (sizeIn v k) s n)) (b .0) in
+    ap (λ (xs : List Held). flatten (map (bytesIn (layoutIn v k .fields)) xs)) o
+    ∙ records-joined (layoutIn v k .fields) (used-fields v k h u) c n s
+    ∙ take-all (n * sizeIn v k) s (omega (arith, l .whole, div-add-mod' (length s) (sizeIn v k)))
 
 -- ---- what it means
 
-module _ (k : ℕ) (h : k < 10) (t s : List ℕ) (m : Made k t s) where
-  pub table-means : eqb k 3 ≡ false → map (heldMeaning k) (recordsOf k t (canonicalTable k t s)) ≡ map (heldMeaning k) (recordsOf k t s)
+module _ (v : Version) (k : ℕ) (h : k < 10) (t s : List ℕ) (m : Made v k t s) where
+  pub table-means : eqb k 3 ≡ false → map (heldMeaning v k) (recordsOf v k t (canonicalTable v k t s)) ≡ map (heldMeaning v k) (recordsOf v k t s)
   table-means e =
-      let o : inOrder k t s ≡ recordsOf k t s = rw e in
-      rw (m .records′, o) (remade-means (layout k .fields) (layouts-alike k h) (recordsOf k t s) (m .held))
+      let o : inOrder v k t s ≡ recordsOf v k t s = rw e in
+      rw (m .records′, o) (remade-means (layoutIn v k .fields) (layouts-alike v k h) (recordsOf v k t s) (m .held))
 
 abbrev declaredFields : List Field
 declaredFields = layout 3 .fields
@@ -128,20 +135,20 @@ lists-mean :
     (xs : List Held)
     → All (Fine declaredFields) xs
     → (n b : ℕ)
-    → map (map (heldMeaning 3)) (map (map (remade declaredFields)) (byBlas xs b n)) ≡ map (map (heldMeaning 3)) (byBlas xs b n)
+    → map (map (heldMeaning version.One 3)) (map (map (remade declaredFields)) (byBlas xs b n)) ≡ map (map (heldMeaning version.One 3)) (byBlas xs b n)
 unfolding byBlas
 lists-mean xs a zero b = refl
 lists-mean xs a (suc n) b =
-    rw (remade-means declaredFields (layouts-alike 3 (omega arith)) (ofBlas b xs) (all-of (Fine declaredFields) b xs a), lists-mean xs a n (b + 1))
+    rw (remade-means declaredFields (layouts-alike version.One 3 (omega arith)) (ofBlas b xs) (all-of (Fine declaredFields) b xs a), lists-mean xs a n (b + 1))
 
 pub declared-means :
-    (t s : List ℕ)
-    → Made 3 t s
-    → map (map (heldMeaning 3)) (declaredLists t (canonicalTable 3 t s)) ≡ map (map (heldMeaning 3)) (declaredLists t s)
-declared-means t s m =
-    let xs = recordsOf 3 t s in
+    (v : Version) (t s : List ℕ)
+    → Made v 3 t s
+    → map (map (heldMeaning version.One 3)) (declaredLists t (canonicalTable v 3 t s)) ≡ map (map (heldMeaning version.One 3)) (declaredLists t s)
+declared-means v t s m =
+    let xs = recordsOf v 3 t s in
     let n = length t / size 2 in
-    rw (m .records′, by-map (remade declaredFields) (inOrder 3 t s) (all-blas-kept (inOrder 3 t s) (m .listed)) 0 n, by-ordered xs n n 0 (omega arith))
+    rw (m .records′, by-map (remade declaredFields) (inOrder v 3 t s) (all-blas-kept (inOrder v 3 t s) (m .listed)) 0 n, by-ordered xs n n 0 (omega arith))
     (lists-mean xs (m .held) n 0)
 
 -- ---- the bytes of a meaning
@@ -164,62 +171,62 @@ unfolding recordsFrom
 records-below c w zero s b = tt
 records-below c w (suc n) s b = (below-take w s b, records-below c w n (drop w s) (below-drop w s b))
 
-drawn-below : (t : List ℕ) (n q : ℕ) (s : List ℕ) → Below s → All BytesBelow (drawnFrom t q s n)
+drawn-below : (v : Version) (t : List ℕ) (n q : ℕ) (s : List ℕ) → Below s → All BytesBelow (drawnFrom v t q s n)
 unfolding drawnFrom
-drawn-below t zero q s b = tt
-drawn-below t (suc n) q s b =
-    all-append BytesBelow (recordsFrom (begin (size 5) t (ofBoxes t q)) (size 6) s (drawnCount t q)) _
-    (records-below (begin (size 5) t (ofBoxes t q)) (size 6) (drawnCount t q) s b)
-    (drawn-below t n (q + size 5) (drop (drawnCount t q * size 6) s) (below-drop (drawnCount t q * size 6) s b))
+drawn-below v t zero q s b = tt
+drawn-below v t (suc n) q s b =
+    all-append BytesBelow (recordsFrom (begin (size 5) t (ofBoxes t q)) (sizeIn v 6) s (drawnCount t q)) _
+    (records-below (begin (size 5) t (ofBoxes t q)) (sizeIn v 6) (drawnCount t q) s b)
+    (drawn-below v t n (q + size 5) (drop (drawnCount t q * sizeIn v 6) s) (below-drop (drawnCount t q * sizeIn v 6) s b))
 
-all-below : (k : ℕ) (t s : List ℕ) → Below s → All BytesBelow (recordsOf k t s)
-all-below k t s b = go (eqb k 6)
+all-below : (v : Version) (k : ℕ) (t s : List ℕ) → Below s → All BytesBelow (recordsOf v k t s)
+all-below v k t s b = go (eqb k 6)
   where
-    go : (six : Bool) → All BytesBelow (cond six (drawnFrom t 0 s (length t / size 5)) (recordsFrom (begin (size (k - 1)) t false) (size k) s (length s / size k)))
-    go true = drawn-below t (length t / size 5) 0 s b
-    go false = records-below (begin (size (k - 1)) t false) (size k) (length s / size k) s b
+    go : (six : Bool) → All BytesBelow (cond six (drawnFrom v t 0 s (length t / size 5)) (recordsFrom (begin (sizeIn v (k - 1)) t false) (sizeIn v k) s (length s / sizeIn v k)))
+    go true = drawn-below v t (length t / size 5) 0 s b
+    go false = records-below (begin (sizeIn v (k - 1)) t false) (sizeIn v k) (length s / sizeIn v k) s b
 
 -- of a list of records
-abbrev pub bytesOf : ℕ → List (List (Option ℕ)) → List ℕ
-bytesOf k m = flatten (map (recordOf (layout k .fields)) m)
+abbrev pub bytesOf : Version → ℕ → List (List (Option ℕ)) → List ℕ
+bytesOf v k m = flatten (map (recordOf (layoutIn v k .fields)) m)
 
 list-of :
-    (k : ℕ) (xs : List Held)
-    → All (Fine (layout k .fields)) xs
+    (v : Version) (k : ℕ) (xs : List Held)
+    → All (Fine (layoutIn v k .fields)) xs
     → All BytesBelow xs
-    → map (recordOf (layout k .fields)) (map (heldMeaning k) xs) ≡ map (bytesIn (layout k .fields)) xs
-list-of k [] a b = refl
-list-of k (x ∷ xs) a b =
-    rw (of-meaning (layout k .fields) (x .seen) (x .bytes) (fine-whole (layout k .fields) x (a .0)) (b .0), list-of k xs (a .1) (b .1))
+    → map (recordOf (layoutIn v k .fields)) (map (heldMeaning v k) xs) ≡ map (bytesIn (layoutIn v k .fields)) xs
+list-of v k [] a b = refl
+list-of v k (x ∷ xs) a b =
+    rw (of-meaning (layoutIn v k .fields) (x .seen) (x .bytes) (fine-whole (layoutIn v k .fields) x (a .0)) (b .0), list-of v k xs (a .1) (b .1))
 
 pub table-of :
-    (k : ℕ) (t s : List ℕ)
-    → Made k t s
+    (v : Version) (k : ℕ) (t s : List ℕ)
+    → Made v k t s
     → Below s
     → eqb k 3 ≡ false
-    → bytesOf k (map (heldMeaning k) (recordsOf k t s)) ≡ canonicalTable k t s
+    → bytesOf v k (map (heldMeaning v k) (recordsOf v k t s)) ≡ canonicalTable v k t s
 unfolding canonicalTable
-table-of k t s m b e = rw e (ap flatten (list-of k (recordsOf k t s) (m .held) (all-below k t s b)))
+table-of v k t s m b e = rw e (ap flatten (list-of v k (recordsOf v k t s) (m .held) (all-below v k t s b)))
 
 lists-of :
     (xs : List Held)
     → All (Fine declaredFields) xs
     → All BytesBelow xs
     → (n b : ℕ)
-    → flatten (map (bytesOf 3) (map (map (heldMeaning 3)) (byBlas xs b n))) ≡ flatten (map (bytesIn declaredFields) (flatten (byBlas xs b n)))
+    → flatten (map (bytesOf version.One 3) (map (map (heldMeaning version.One 3)) (byBlas xs b n))) ≡ flatten (map (bytesIn declaredFields) (flatten (byBlas xs b n)))
 unfolding byBlas flatten
 lists-of xs a c zero b = refl
 lists-of xs a c (suc n) b =
     rw (
-      list-of 3 (ofBlas b xs) (all-of (Fine declaredFields) b xs a) (all-of BytesBelow b xs c),
+      list-of version.One 3 (ofBlas b xs) (all-of (Fine declaredFields) b xs a) (all-of BytesBelow b xs c),
       lists-of xs a c n (b + 1),
     )
     (sym (flatten-map (bytesIn declaredFields) (ofBlas b xs) (flatten (byBlas xs (b + 1) n))))
 
 pub declared-of :
-    (t s : List ℕ)
-    → Made 3 t s
+    (v : Version) (t s : List ℕ)
+    → Made v 3 t s
     → Below s
-    → flatten (map (bytesOf 3) (map (map (heldMeaning 3)) (declaredLists t s))) ≡ canonicalTable 3 t s
+    → flatten (map (bytesOf version.One 3) (map (map (heldMeaning version.One 3)) (declaredLists t s))) ≡ canonicalTable v 3 t s
 unfolding canonicalTable
-declared-of t s m b = lists-of (recordsOf 3 t s) (m .held) (all-below 3 t s b) (length t / size 2) 0
+declared-of v t s m b = lists-of (recordsOf v 3 t s) (m .held) (all-below v 3 t s b) (length t / size 2) 0

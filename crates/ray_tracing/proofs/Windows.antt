@@ -12,8 +12,8 @@ use lib.Seq.{length-take-le, getD-take, getD-drop, ext-getD}
 use borrow.Author.Tests.{le-ltb, ltb-false, eqb-true}
 use Rattle.wire.specs.Wire.{leAt}
 use Rattle.wire.proofs.Laws.{le-cong}
-use Rattle.ray_tracing.specs.Layout.{Seen, Field, layout, size, total}
-use Rattle.ray_tracing.specs.Reading.{Judged, fine, refused, judgedWhen, _andNext_, judgeFields, judgeRecords, begin, ofBoxes, drawnCount, judgeDrawn, judgeTable, sumOfCounts, addsUp, judgeSection}
+use Rattle.ray_tracing.specs.Layout.{Seen, Field, layoutIn, size, sizeIn, total}
+use Rattle.ray_tracing.specs.Reading.{Judged, fine, refused, judgedWhen, _andNext_, judgeFields, judgeRecords, begin, ofBoxes, drawnCount, judgeDrawn, judgeTable, sumOfCounts, addsUp, versionIn, judgeSection}
 
 -- t is a part of s, from a on
 pub record Window (a : ℕ) (t s : List ℕ) : Type 0 where
@@ -115,36 +115,38 @@ module _ {a : ℕ} {t s : List ℕ} (w : Window a t s) where
   -- the section after section k, where the window holds the most records that it may have
   pub section-window :
       (k q p : ℕ)
+      → versionIn s ≡ versionIn t
       → q ≤ p
-      → p + 2 + layout (k + 1) .most * size (k + 1) ≤ length t
+      → p + 2 + layoutIn (versionIn t) (k + 1) .most * sizeIn (versionIn t) (k + 1) ≤ length t
       → judgeSection s k (a + q) (a + p) ≡ moved a (judgeSection t k q p)
   unfolding judgeSection
-  section-window k q p h l =
+  section-window k q p v h l =
       let e : a + p - (a + q) ≡ p - q = omega arith in
       rw (
         e,
+        v,
         part-window (p - q) q (omega arith),
         le-window 2 p (omega arith),
         le-ltb (length s) (a + p + 2) (omega (arith, w .inside)),
         le-ltb (length t) (p + 2) (omega arith),
         add-assoc,
       )
-      (go (take (p - q) (drop q t)) (ltb (layout (k + 1) .most) (leAt 2 t p)) refl (addsUp (k + 1) (take (p - q) (drop q t)) (leAt 2 t p)) refl)
+      (go (take (p - q) (drop q t)) (ltb (layoutIn (versionIn t) (k + 1) .most) (leAt 2 t p)) refl (addsUp (k + 1) (take (p - q) (drop q t)) (leAt 2 t p)) refl)
     where
       go :
           (b : List ℕ) (many : Bool)
-          → ltb (layout (k + 1) .most) (leAt 2 t p) ≡ many
+          → ltb (layoutIn (versionIn t) (k + 1) .most) (leAt 2 t p) ≡ many
           → (sum : Bool)
           → addsUp (k + 1) b (leAt 2 t p) ≡ sum
           → (judgedWhen many (refused 4 (a + p))
           andNext judgedWhen (not sum) (refused 5 (a + p))
-          andNext judgeTable (k + 1) (layout (k + 1) .fields) (size k) b s (a + (p + 2)) (leAt 2 t p))
+          andNext judgeTable (k + 1) (layoutIn (versionIn t) (k + 1) .fields) (sizeIn (versionIn t) k) b s (a + (p + 2)) (leAt 2 t p))
           ≡ moved a
           (judgedWhen many (refused 4 p)
           andNext judgedWhen (not sum) (refused 5 p)
-          andNext judgeTable (k + 1) (layout (k + 1) .fields) (size k) b t (p + 2) (leAt 2 t p))
+          andNext judgeTable (k + 1) (layoutIn (versionIn t) (k + 1) .fields) (sizeIn (versionIn t) k) b t (p + 2) (leAt 2 t p))
       go b true e sum f = refl
       go b false e false f = refl
       go b false e true f =
-          let m = mul-le-mul-right (size (k + 1)) (ltb-false (layout (k + 1) .most) (leAt 2 t p) e) in
-          table-window (layout (k + 1) .fields) (k + 1) (size k) b (p + 2) (leAt 2 t p) f (omega arith)
+          let m = mul-le-mul-right (sizeIn (versionIn t) (k + 1)) (ltb-false (layoutIn (versionIn t) (k + 1) .most) (leAt 2 t p) e) in
+          table-window (layoutIn (versionIn t) (k + 1) .fields) (k + 1) (sizeIn (versionIn t) k) b (p + 2) (leAt 2 t p) f (omega arith)

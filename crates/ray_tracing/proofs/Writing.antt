@@ -3,17 +3,19 @@ use Prim.Native.Nat.{ℕ, zero, suc, _+_, _-_, _*_, _^_, _≤_, _<_}
 use native.Mathlib.Nat.{add-zero, div-add-mod'}
 use native.Mathlib.Numerals.{add-one}
 use native.Mathlib.Omega.{arith}
-use mathlib.Core.Bool.{true, false}
+use mathlib.Core.Bool.{true, false, cond}
 use mathlib.Core.Path.{_≡_, refl, sym, ap, _∙_}
 use mathlib.Core.List.{List, [], _++_, append-assoc}
-use lib.Dec.{ltb, lit<}
+use lib.Dec.{eqb, ltb, lit<}
 use lib.ListN.{length, drop, length-append, length-drop}
 use lib.Seq.{drop-drop, drop-at, take-append-seam}
 use borrow.Author.Tests.{le-ltb, lt-ltb, ltb-true}
 use Rattle.wire.specs.Wire.{leAt, leBytes}
 use Rattle.wire.proofs.Laws.{le-drop, le-of-bytes, length-leBytes}
-use Rattle.ray_tracing.specs.Layout.{layout, size}
-use Rattle.ray_tracing.specs.Reading.{fine, judgeFields, judgeRecords, begin, past, from, judgeSection, judgeSections, judgeSheet, sectionOf, accepted, readSheet, judgeLent, table}
+use Rattle.ray_tracing.specs.declared.Version.{Version}
+use Rattle.ray_tracing.specs.declared.Version.the-variants as version
+use Rattle.ray_tracing.specs.Layout.{versionNumber, layout, layoutIn, size, sizeIn}
+use Rattle.ray_tracing.specs.Reading.{fine, judgeFields, judgeRecords, begin, versionIn, past, from, judgeSection, judgeSections, taken, judgeSheet, sectionOf, accepted, readSheet, judgeLent, table}
 use Rattle.ray_tracing.specs.Canonical.{countOf, sectionBytes, headerBytes, sheetBytes}
 use Rattle.ray_tracing.specs.Writing.{endOf, sectionWith, sheetWith}
 use Rattle.ray_tracing.proofs.Each.{each}
@@ -21,10 +23,10 @@ use Rattle.ray_tracing.proofs.Reading.{past-more}
 use Rattle.ray_tracing.proofs.Sheets.{Lent, lent-tells, lent-apart, lent-section, table-section}
 
 -- a u16 holds every count
-most-below : (k : ℕ) → k < 10 → layout k .most < 256 ^ 2
-most-below k h =
-    ltb-true (layout k .most) (256 ^ 2)
-    (each (λ (j : ℕ). ltb (layout j .most) (256 ^ 2) ≡ true) 10 (refl, (refl, (refl, (refl, (refl, (refl, (refl, (refl, (refl, (refl, tt)))))))))) k h)
+most-below : (v : Version) (k : ℕ) → k < 10 → layoutIn v k .most < 256 ^ 2
+most-below v k h =
+    ltb-true (layoutIn v k .most) (256 ^ 2)
+    (each (λ (j : ℕ). ltb (layoutIn v j .most) (256 ^ 2) ≡ true) 10 (refl, (refl, (refl, (refl, (refl, (refl, (refl, (refl, (refl, (refl, tt)))))))))) k h)
 
 pub end-more : (tables : ℕ → List ℕ) (k : ℕ) → endOf tables (k + 1) ≡ endOf tables k + 2 + length (tables (k + 1))
 unfolding endOf
@@ -49,17 +51,29 @@ module _ (s t r : List ℕ) (n p : ℕ) (e : drop p s ≡ leBytes 2 n ++ (t ++ r
   rest-here = sym (drop-drop (length t) (p + 2) s) ∙ rw records-here (drop-at t r (length t) refl)
 
 -- ---- the sheet
-module _ (alignment counter : ℕ) (tables : ℕ → List ℕ) where
+module _ (v : Version) (alignment counter : ℕ) (tables : ℕ → List ℕ) where
   abbrev bytes : List ℕ
-  bytes = sheetBytes alignment counter tables
+  bytes = sheetBytes v alignment counter tables
 
   -- section k is written and read alike
   record Written (k : ℕ) : Type 0 where
     ends : past bytes k ≡ endOf tables k
-    rest : drop (endOf tables k) bytes ≡ sectionBytes tables k (9 - k)
+    rest : drop (endOf tables k) bytes ≡ sectionBytes v tables k (9 - k)
     near : endOf tables k ≤ length bytes
 
-  header-length : length (headerBytes alignment counter) ≡ 13
+  version-read : leAt 1 bytes 0 ≡ versionNumber v
+  unfolding leAt sheetBytes
+  version-read = omega arith
+
+  version-is : versionIn bytes ≡ v
+  unfolding versionIn
+  version-is = rw version-read (by v)
+    where
+      by : (v : Version) → cond (eqb (versionNumber v) 2) version.Two version.One ≡ v
+      by version.One = refl
+      by version.Two = refl
+
+  header-length : length (headerBytes v alignment counter) ≡ 13
   header-length = rw length-append (omega (arith, length-leBytes 4 alignment, length-leBytes 8 counter))
 
   written : Written 0
@@ -67,57 +81,58 @@ module _ (alignment counter : ℕ) (tables : ℕ → List ℕ) where
   written =
       record {
         ends = refl;
-        rest = drop-at (headerBytes alignment counter) (sectionBytes tables 0 9) 13 header-length;
+        rest = drop-at (headerBytes v alignment counter) (sectionBytes v tables 0 9) 13 header-length;
         near = rw length-append (omega (arith, header-length));
       }
 
-  module _ (lent : (k : ℕ) → k < 9 → judgeLent (k + 1) (layout (k + 1)) (size k) (tables k) (tables (k + 1)) ≡ fine) where
+  module _ (lent : (k : ℕ) → k < 9 → judgeLent (k + 1) (layoutIn v (k + 1)) (sizeIn v k) (tables k) (tables (k + 1)) ≡ fine) where
     module _ (k : ℕ) (h : k < 9) (w : Written k) where
-      told : Lent (k + 1) (layout (k + 1)) (size k) (tables k) (tables (k + 1))
-      told = lent-tells (k + 1) (layout (k + 1)) (size k) (tables k) (tables (k + 1)) (lent k h)
+      told : Lent (k + 1) (layoutIn v (k + 1)) (sizeIn v k) (tables k) (tables (k + 1))
+      told = lent-tells (k + 1) (layoutIn v (k + 1)) (sizeIn v k) (tables k) (tables (k + 1)) (lent k h)
 
       here :
           drop (endOf tables k) bytes
-          ≡ leBytes 2 (countOf tables (k + 1)) ++ (tables (k + 1) ++ sectionBytes tables (k + 1) (9 - (k + 1)))
+          ≡ leBytes 2 (countOf v tables (k + 1)) ++ (tables (k + 1) ++ sectionBytes v tables (k + 1) (9 - (k + 1)))
       unfolding sectionBytes
       here =
           let e : 9 - k ≡ suc (9 - (k + 1)) = omega arith in
           rw e at (w .rest)
 
       abbrev after : List ℕ
-      after = sectionBytes tables (k + 1) (9 - (k + 1))
+      after = sectionBytes v tables (k + 1) (9 - (k + 1))
 
-      count-read : leAt 2 bytes (past bytes k) ≡ countOf tables (k + 1)
+      count-read : leAt 2 bytes (past bytes k) ≡ countOf v tables (k + 1)
       count-read =
           rw (w .ends)
-          (count-here bytes (tables (k + 1)) after (countOf tables (k + 1)) (endOf tables k) here (w .near)
-          (omega (arith, told .few, most-below (k + 1) (omega arith))))
+          (count-here bytes (tables (k + 1)) after (countOf v tables (k + 1)) (endOf tables k) here (w .near)
+          (omega (arith, told .few, most-below v (k + 1) (omega arith))))
 
-      count-size : countOf tables (k + 1) * size (k + 1) ≡ length (tables (k + 1))
-      count-size = omega (arith, told .whole, div-add-mod' (length (tables (k + 1))) (size (k + 1)))
+      count-size : countOf v tables (k + 1) * sizeIn v (k + 1) ≡ length (tables (k + 1))
+      count-size = omega (arith, told .whole, div-add-mod' (length (tables (k + 1))) (sizeIn v (k + 1)))
 
-      section-whole : past bytes k + 2 + leAt 2 bytes (past bytes k) * size (k + 1) ≤ length bytes
+      section-whole : past bytes k + 2 + leAt 2 bytes (past bytes k) * sizeIn (versionIn bytes) (k + 1) ≤ length bytes
       section-whole =
-          rw (count-read, count-size, w .ends)
-          (omega (arith, whole-length bytes (tables (k + 1)) after (countOf tables (k + 1)) (endOf tables k) here (w .near)))
+          rw (version-is, count-read, count-size, w .ends)
+          (omega (arith, whole-length bytes (tables (k + 1)) after (countOf v tables (k + 1)) (endOf tables k) here (w .near)))
 
       table-read : table bytes (k + 1) ≡ tables (k + 1)
       table-read =
           rw (
             table-section,
+            version-is,
             count-read,
             count-size,
             w .ends,
-            records-here bytes (tables (k + 1)) after (countOf tables (k + 1)) (endOf tables k) here (w .near),
+            records-here bytes (tables (k + 1)) after (countOf v tables (k + 1)) (endOf tables k) here (w .near),
           )
           (take-append-seam (tables (k + 1)) after)
 
       written-more : Written (k + 1)
       written-more =
           record {
-            ends = rw (past-more, end-more, count-read, count-size, w .ends);
-            rest = rw end-more (rest-here bytes (tables (k + 1)) after (countOf tables (k + 1)) (endOf tables k) here (w .near));
-            near = rw end-more (omega (arith, whole-length bytes (tables (k + 1)) after (countOf tables (k + 1)) (endOf tables k) here (w .near)));
+            ends = rw (past-more, version-is, end-more, count-read, count-size, w .ends);
+            rest = rw end-more (rest-here bytes (tables (k + 1)) after (countOf v tables (k + 1)) (endOf tables k) here (w .near));
+            near = rw end-more (omega (arith, whole-length bytes (tables (k + 1)) after (countOf v tables (k + 1)) (endOf tables k) here (w .near)));
           }
 
     written-all : (k : ℕ) → k ≤ 9 → Written k
@@ -127,8 +142,8 @@ module _ (alignment counter : ℕ) (tables : ℕ → List ℕ) where
     pub written-table : (k : ℕ) → k < 9 → table bytes (k + 1) ≡ tables (k + 1)
     written-table k h = table-read k h (written-all k (omega arith))
 
-    lent-before : (k : ℕ) → k < 9 → judgeLent (k + 1) (layout (k + 1)) (size k) (table bytes k) (tables (k + 1)) ≡ fine
-    lent-before zero h = lent-apart 1 (omega arith) refl (size 0) (size 0) (table bytes 0) (tables 0) (tables 1) ∙ lent 0 h
+    lent-before : (k : ℕ) → k < 9 → judgeLent (k + 1) (layoutIn v (k + 1)) (sizeIn v k) (table bytes k) (tables (k + 1)) ≡ fine
+    lent-before zero h = lent-apart 1 (omega arith) refl v v (size 0) (size 0) (table bytes 0) (tables 0) (tables 1) ∙ lent 0 h
     lent-before (suc k) h =
         let e : table bytes (suc k) ≡ tables (suc k) = rw add-one at (written-table k (omega arith)) in
         rw e (lent (suc k) h)
@@ -136,7 +151,7 @@ module _ (alignment counter : ℕ) (tables : ℕ → List ℕ) where
     section-read : (k : ℕ) → k < 9 → judgeSection bytes k (from bytes k) (past bytes k) ≡ fine
     section-read k h =
         lent-section bytes k (from bytes k) (past bytes k) h (section-whole k h (written-all k (omega arith)))
-        (rw (← table-section bytes k, written-table k h) (lent-before k h))
+        (rw (← table-section bytes k, written-table k h, version-is) (lent-before k h))
 
     sections-read : (n k : ℕ) → k + n ≡ 9 → judgeSections bytes k n ≡ fine
     unfolding judgeSections
@@ -149,7 +164,7 @@ module _ (alignment counter : ℕ) (tables : ℕ → List ℕ) where
         let w = written-all 9 (omega arith) in
         omega (arith, w .ends, sym (length-drop (endOf tables 9) bytes) ∙ ap length (w .rest))
 
-    section-is : (k : ℕ) → k < 9 → sectionOf bytes k ≡ sectionWith tables k
+    section-is : (k : ℕ) → k < 9 → sectionOf bytes k ≡ sectionWith v tables k
     section-is k h =
         let w = written-all k (omega arith) in
         λ i. record { start = w .ends i + 2; count = count-read k h w i }
@@ -160,18 +175,21 @@ module _ (alignment counter : ℕ) (tables : ℕ → List ℕ) where
       unfolding endOf
       long = written .near
 
-      version-read : leAt 1 bytes 0 ≡ 1
-      unfolding leAt sheetBytes
-      version-read = refl
+      version-taken : taken (versionNumber v) ≡ true
+      version-taken = by v
+        where
+          by : (v : Version) → taken (versionNumber v) ≡ true
+          by version.One = refl
+          by version.Two = refl
 
       alignment-read : leAt 4 bytes 1 ≡ alignment
       unfolding sheetBytes
       alignment-read =
-          sym (le-drop 4 1 bytes 0) ∙ rw append-assoc (le-of-bytes 4 alignment (leBytes 8 counter ++ sectionBytes tables 0 9) fits)
+          sym (le-drop 4 1 bytes 0) ∙ rw append-assoc (le-of-bytes 4 alignment (leBytes 8 counter ++ sectionBytes v tables 0 9) fits)
 
       counter-read : leAt 8 bytes 5 ≡ counter
       unfolding sheetBytes leBytes
-      counter-read = sym (le-drop 8 5 bytes 0) ∙ le-of-bytes 8 counter (sectionBytes tables 0 9) counted
+      counter-read = sym (le-drop 8 5 bytes 0) ∙ le-of-bytes 8 counter (sectionBytes v tables 0 9) counted
 
       header-read : judgeRecords (begin 0 [] false) (layout 0 .fields) bytes 1 1 ≡ fine
       unfolding judgeRecords judgeFields
@@ -189,18 +207,19 @@ module _ (alignment counter : ℕ) (tables : ℕ → List ℕ) where
           rw (
             le-ltb (length bytes) 1 (omega (arith, long)),
             version-read,
+            version-taken,
             header-read,
             sections-read 9 0 refl,
             le-ltb (past bytes 9) (length bytes) sheet-end,
           )
 
-      pub written-read : readSheet bytes ≡ accepted (sheetWith alignment counter tables)
+      pub written-read : readSheet bytes ≡ accepted (sheetWith v alignment counter tables)
       unfolding readSheet
       written-read =
           rw judged-fine
           (λ i. accepted
           (record {
-            version = version-read i;
+            version = version-is i;
             alignment = alignment-read i;
             counter = counter-read i;
             buffers = section-is 0 (lit< tt) i;

@@ -12,7 +12,8 @@ use lib.Seq.{length-take-le, drop-at, getD-drop}
 use borrow.Author.Tests.{le-ltb, not-false}
 use Rattle.wire.specs.Wire.{leAt, leBytes}
 use Rattle.wire.proofs.Laws.{le-take, le-append-left, leBytes-at}
-use Rattle.ray_tracing.specs.Layout.{Seen, Field, fits, layout, total, triangles, withBuffer, present, any, wide, presentByte, bufferOrNone, u64, tagKnown}
+use Rattle.ray_tracing.specs.declared.Version.{Version}
+use Rattle.ray_tracing.specs.Layout.{Seen, Field, fits, geometries, layout, layoutIn, total, triangles, withBuffer, present, any, wide, presentByte, bufferOrNone, u64, tagKnown}
 use Rattle.ray_tracing.specs.Reading.{fine, refused, judgedWhen, judgeField, judgeFields}
 use Rattle.ray_tracing.specs.Meaning.{recordMeaning}
 use Rattle.ray_tracing.specs.Canonical.{canonicalRecord}
@@ -68,14 +69,14 @@ transform-alike b w n t u = next refl (λ v. refl) λ v. with-number b w 8 [] (e
 
 -- a geometry's fields after its data buffer
 geometry-alike :
-    (boxes : Bool) (b : List ℕ) (w : ℕ) (n : Bool) (t : ℕ)
+    (v : Version) (boxes : Bool) (b : List ℕ) (w : ℕ) (n : Bool) (t : ℕ)
     → let c : Seen = record { before = b; each = w; boxes = boxes; none = n; tag = t } in
-    Alike (drop 5 (layout 6 .fields)) c c
-geometry-alike true b w n t =
+    Alike (drop 5 (geometries v .fields)) c c
+geometry-alike v true b w n t =
     next refl (λ v. refl) λ v. next refl (λ v. refl) λ v. next refl (λ v. refl) λ v. next refl (λ v. refl) λ v.
     next refl (λ v. refl) λ v. next refl (λ v. refl) λ v. next refl (λ v. refl) λ v. next refl (λ v. refl) λ v.
     next refl (λ v. refl) λ v. next refl (λ v. refl) λ v. tt
-geometry-alike false b w n t =
+geometry-alike v false b w n t =
     next refl (λ v. refl) λ v. next refl (λ v. refl) λ v. next refl (λ v. refl) λ i. next refl (λ v. refl) λ p.
     next refl (λ v. refl) λ v. with-number b w 4 transformFields (eqb i 65535) p p (λ x y. transform-alike b w (eqb i 65535) x y)
 
@@ -94,9 +95,9 @@ declared-alike false b w n t =
 still : (c : Seen) → ℕ → c ≡ c
 still c v = refl
 
-pub layouts-alike : (k : ℕ) → k < 10 → (c : Seen) → Alike (layout k .fields) c c
-layouts-alike =
-    each (λ (k : ℕ). (c : Seen) → Alike (layout k .fields) c c) 10 (
+pub layouts-alike : (v : Version) (k : ℕ) → k < 10 → (c : Seen) → Alike (layoutIn v k .fields) c c
+layouts-alike v =
+    each (λ (k : ℕ). (c : Seen) → Alike (layoutIn v k .fields) c c) 10 (
       plain (layout 0 .fields) (still, (still, tt)),
       (
         plain (layout 1 .fields) (still, (still, tt)),
@@ -108,10 +109,10 @@ layouts-alike =
     declared-fields c =
         next refl (λ v. refl) λ v. declared-alike (eqb (getD (c .before) (v * c .each) 0) 1) (c .before) (c .each) (c .none) (c .tag)
 
-    geometry-fields : (c : Seen) → Alike (layout 6 .fields) c c
+    geometry-fields : (c : Seen) → Alike (geometries v .fields) c c
     geometry-fields c =
-        next refl (λ v. refl) λ v. next refl (λ v. refl) λ v. next refl (λ v. refl) λ v. next refl (λ v. refl) λ v.
-        next refl (λ v. refl) λ v. geometry-alike (c .boxes) (c .before) (c .each) (c .none) (c .tag)
+        next refl (λ x. refl) λ x. next refl (λ x. refl) λ x. next refl (λ x. refl) λ x. next refl (λ x. refl) λ x.
+        next refl (λ x. refl) λ x. geometry-alike v (c .boxes) (c .before) (c .each) (c .none) (c .tag)
 
     slot-fields : (c : Seen) → Alike (layout 8 .fields) c c
     slot-fields c = next refl (λ v. refl) λ v. plain (drop 1 (layout 8 .fields)) (still, (still, (still, (still, (still, (still, (still, (still, (still, (still, (still, (still, (still, (still, (still, tt))))))))))))))) (tagKnown c v)

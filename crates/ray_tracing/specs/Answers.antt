@@ -1,5 +1,6 @@
 -- The exported answers as records of numbers: what the definitions' answers come to, unused fields 0. Assumes nothing.
 use Prim.Native.Nat.{ℕ}
+use Rattle.ray_tracing.specs.Layout.{versionNumber}
 use Rattle.ray_tracing.specs.Reading.{Reading, accepted, rejected}
 use Rattle.ray_tracing.specs.Plan.{Building, recorded, nothing-recorded, not-built}
 use Rattle.ray_tracing.specs.Instances.{Appending, inUse, refused}
@@ -20,7 +21,7 @@ sheetAnswer (accepted x) =
     record {
       number = 0;
       place = 0;
-      version = x .version;
+      version = versionNumber (x .version);
       alignment = x .alignment;
       counter = x .counter;
       «buffers_start» = x .buffers .start;
@@ -69,7 +70,7 @@ sheetAnswer (rejected n p) =
       «actions_count» = 0;
     }
 
--- how many bytes of a sheet were written, or why not and where
+-- how many bytes of a sheet were written, anew or in the other version, or why not and where
 abbrev pub writeAnswer : Writing → WriteAnswer
 writeAnswer (wrote n) = record { number = 0; place = 0; written = n }
 writeAnswer (unwritten n p) = record { number = n; place = p; written = 0 }

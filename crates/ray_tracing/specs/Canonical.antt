@@ -8,30 +8,32 @@ use lib.ListN.{length, take, drop, replicate}
 use lib.Seq.{sets}
 use lib.Dec.{ltb, eqb}
 use Rattle.wire.specs.Wire.{leAt, leBytes}
+use Rattle.ray_tracing.specs.declared.Version.{Version}
 use Rattle.ray_tracing.specs.declared.SheetWritten.{SheetWritten}
 use Rattle.ray_tracing.specs.declared.SheetWritten.the-variants as sheet-written
-use Rattle.ray_tracing.specs.Layout.{Seen, Field, layout, size}
-use Rattle.ray_tracing.specs.Reading.{Reading, accepted, rejected, readSheet, table}
+use Rattle.ray_tracing.specs.Layout.{Seen, Field, versionNumber, layoutIn, sizeIn}
+use Rattle.ray_tracing.specs.Reading.{Reading, accepted, rejected, readSheet, versionIn, table}
 use Rattle.ray_tracing.specs.Causes.{sheetNumber}
 use Rattle.ray_tracing.specs.Meaning.{Held, recordsOf, declaredLists}
 
 -- A sheet of tables
 
 -- how many records a table has
-abbrev pub countOf : (ℕ → List ℕ) → ℕ → ℕ
-countOf tables k = length (tables k) / size k
+abbrev pub countOf : Version → (ℕ → List ℕ) → ℕ → ℕ
+countOf v tables k = length (tables k) / sizeIn v k
 
 -- "Then sections in this order, each after a u16 count": the n sections after section k
-unfoldable pub sectionBytes : (ℕ → List ℕ) → ℕ → ℕ → List ℕ
-sectionBytes tables k zero = []
-sectionBytes tables k (suc n) = leBytes 2 (countOf tables (k + 1)) ++ (tables (k + 1) ++ sectionBytes tables (k + 1) n)
+unfoldable pub sectionBytes : Version → (ℕ → List ℕ) → ℕ → ℕ → List ℕ
+sectionBytes v tables k zero = []
+sectionBytes v tables k (suc n) =
+    leBytes 2 (countOf v tables (k + 1)) ++ (tables (k + 1) ++ sectionBytes v tables (k + 1) n)
 
 -- "Version byte 1, scratch alignment u32, counter u64"
-abbrev pub headerBytes : ℕ → ℕ → List ℕ
-headerBytes alignment counter = 1 ∷ leBytes 4 alignment ++ leBytes 8 counter
+abbrev pub headerBytes : Version → ℕ → ℕ → List ℕ
+headerBytes v alignment counter = versionNumber v ∷ leBytes 4 alignment ++ leBytes 8 counter
 
-unfoldable pub sheetBytes : ℕ → ℕ → (ℕ → List ℕ) → List ℕ
-sheetBytes alignment counter tables = headerBytes alignment counter ++ sectionBytes tables 0 9
+unfoldable pub sheetBytes : Version → ℕ → ℕ → (ℕ → List ℕ) → List ℕ
+sheetBytes v alignment counter tables = headerBytes v alignment counter ++ sectionBytes v tables 0 9
 
 -- The canonical one
 
@@ -43,22 +45,23 @@ canonicalRecord (f ∷ fs) c r =
     ++ canonicalRecord fs (f .after c (leAt (f .width) r 0)) (drop (f .width) r)
 
 -- a record of section k
-abbrev pub heldCanonical : ℕ → Held → List ℕ
-heldCanonical k x = canonicalRecord (layout k .fields) (x .seen) (x .bytes)
+abbrev pub heldCanonical : Version → ℕ → Held → List ℕ
+heldCanonical v k x = canonicalRecord (layoutIn v k .fields) (x .seen) (x .bytes)
 
 -- "declared geometries by Blas number and, within a Blas, in their old order", all others in theirs
-abbrev pub inOrder : ℕ → List ℕ → List ℕ → List Held
-inOrder k t s = cond (eqb k 3) (flatten (declaredLists t s)) (recordsOf k t s)
+abbrev pub inOrder : Version → ℕ → List ℕ → List ℕ → List Held
+inOrder v k t s = cond (eqb k 3) (flatten (declaredLists t s)) (recordsOf v k t s)
 
 -- the table s of section k, after the table t of the section before
-unfoldable pub canonicalTable : ℕ → List ℕ → List ℕ → List ℕ
-canonicalTable k t s = flatten (map (heldCanonical k) (inOrder k t s))
+unfoldable pub canonicalTable : Version → ℕ → List ℕ → List ℕ → List ℕ
+canonicalTable v k t s = flatten (map (heldCanonical v k) (inOrder v k t s))
 
 abbrev pub canonicalTables : List ℕ → ℕ → List ℕ
-canonicalTables s k = canonicalTable k (table s (k - 1)) (table s k)
+canonicalTables s k = canonicalTable (versionIn s) k (table s (k - 1)) (table s k)
 
+-- "The writer of slip 1 writes the version that it read"
 unfoldable pub canonical : List ℕ → List ℕ
-canonical s = sheetBytes (leAt 4 s 1) (leAt 8 s 5) (canonicalTables s)
+canonical s = sheetBytes (versionIn s) (leAt 4 s 1) (leAt 8 s 5) (canonicalTables s)
 
 -- A call
 

@@ -44,8 +44,10 @@ answerRefusal counter x a (recorded size w) = submitRefusal counter x true a
 
 unfoldable pub builtRefusal : List ℕ → Sheet → Refusal
 builtRefusal s x =
-    answerRefusal (x .counter) (sheetTables (x .alignment) (table s)) (table s 9)
-    (build (sheetTables (x .alignment) (table s)) (planOf (sheetTables (x .alignment) (table s))))
+    answerRefusal (x .counter) (sheetTables (x .version) (x .alignment) (table s)) (table s 9)
+    (build
+    (sheetTables (x .version) (x .alignment) (table s))
+    (planOf (sheetTables (x .version) (x .alignment) (table s))))
 
 abbrev pub readingRefusal : List ℕ → Reading → Refusal
 readingRefusal s (rejected n p) = of-sheet n p
@@ -60,7 +62,7 @@ refusalIn s = readingRefusal s (readSheet s)
 abbrev pub causes : List String
 causes =
     "no such cause"
-    ∷ "version not 1"
+    ∷ "version neither 1 nor 2"
     ∷ "sheet ends early"
     ∷ "bytes after the sheet"
     ∷ "count above its limit"
@@ -106,6 +108,7 @@ causes =
     ∷ "Blas newer than Tlas"
     ∷ "count 0, or a group that is not an earlier one"
     ∷ "more than 512 slots"
+    ∷ "first vertex or primitive offset above 2^32 - 1"
     ∷ []
 
 abbrev pub causeWords : ℕ → String
@@ -184,9 +187,13 @@ unfoldable pub itemBytes : List Item → List ℕ
 itemBytes [] = []
 itemBytes (i ∷ l) = (ascii ", " ++ (ascii (i .word) ++ (32 ∷ decimal (i .value)))) ++ itemBytes l
 
--- a line: the number, the cause, the items
+-- a line: the number, its words, the items
+abbrev pub lineWith : ℕ → String → List Item → List ℕ
+lineWith n words l = (ascii "refused " ++ (decimal n ++ (ascii ": " ++ ascii words))) ++ (itemBytes l ++ (10 ∷ []))
+
+-- with the cause
 abbrev pub refusedLine : ℕ → List Item → List ℕ
-refusedLine n l = (ascii "refused " ++ (decimal n ++ (ascii ": " ++ ascii (causeWords n)))) ++ (itemBytes l ++ (10 ∷ []))
+refusedLine n l = lineWith n (causeWords n) l
 
 unfoldable pub explanation : Refusal → List ℕ
 explanation nothing = ascii "nothing is refused\n"
@@ -201,7 +208,7 @@ abbrev pub between : ℕ → ℕ → ℕ → Bool
 between a b n = leb a n && leb n b
 
 -- the numbers that a call can refuse with: 1 reads a sheet, 2 builds, 3 submits, 4 appends an instance, 5 writes a sheet,
--- 6 opens groups, 7 appends many instances
+-- 6 opens groups, 7 appends many instances, 8 converts a sheet to version 2, 9 to version 1
 abbrev pub refusesWith : ℕ → ℕ → Bool
 refusesWith call n =
     cond (eqb call 1) (between 1 5 n)
@@ -210,7 +217,9 @@ refusesWith call n =
     (cond (eqb call 4) (eqb n 6 || (between 34 35 n || eqb n 39))
     (cond (eqb call 5) (between 1 5 n || eqb n 39)
     (cond (eqb call 6) (between 2 5 n || (eqb n 39 || between 45 46 n))
-    (cond (eqb call 7) (between 5 6 n || (between 34 35 n || eqb n 39)) false))))))
+    (cond (eqb call 7) (between 5 6 n || (between 34 35 n || eqb n 39))
+    (cond (eqb call 8) (between 1 5 n || eqb n 39)
+    (cond (eqb call 9) (between 1 5 n || (eqb n 39 || eqb n 47)) false))))))))
 
 -- "Errors: the reader's first, then 39", which has no place
 abbrev pub writeLine : ℕ → ℕ → List ℕ
@@ -224,8 +233,14 @@ openLine e f n = cond (between 45 46 n) (refusedLine n ("group" is e ∷ "item" 
 abbrev pub manyItems : ℕ → ℕ → List Item
 manyItems f n = cond (eqb n 39) [] (cond (eqb n 6 && eqb f 0) ("Tlas or instance" is f ∷ []) ("instance" is f ∷ []))
 
+-- "1 also for the other way's version", which alone is taken; "47 at the byte place", and 39 has none
+abbrev pub convertLine : String → ℕ → ℕ → List ℕ
+convertLine version e n =
+    cond (eqb n 1) (lineWith n version ("byte" is e ∷ []))
+    (cond (eqb n 47) (refusedLine n ("byte" is e ∷ [])) (writeLine e n))
+
 -- the line, by what e and f are in that call: a place; E; the action and its kind, 0 where it is not known; nothing; a place; a place, or
--- a group and its item; 0 and a position
+-- a group and its item; 0 and a position; a place
 abbrev pub callLine : ℕ → ℕ → ℕ → Cause → List ℕ
 callLine call e f c =
     cond (eqb call 1) (explanation (of-sheet (c .number) e))
@@ -233,7 +248,9 @@ callLine call e f c =
     (cond (eqb call 3) (explanation (of-action e f c))
     (cond (eqb call 4) (refusedLine (c .number) [])
     (cond (eqb call 5) (writeLine e (c .number))
-    (cond (eqb call 6) (openLine e f (c .number)) (refusedLine (c .number) (manyItems f (c .number))))))))
+    (cond (eqb call 6) (openLine e f (c .number))
+    (cond (eqb call 7) (refusedLine (c .number) (manyItems f (c .number)))
+    (convertLine (cond (eqb call 8) "version not 1" "version not 2") e (c .number))))))))
 
 abbrev pub noSuchCause : ℕ → List ℕ
 noSuchCause n = ascii "refused " ++ (decimal n ++ ascii ": no such cause\n")

@@ -5,6 +5,8 @@ use mathlib.Core.Bool.{Bool, true, false, not, _&&_, _||_, cond}
 use mathlib.Core.List.{List, [], _∷_}
 use lib.ListN.{length, getD, take, replicate}
 use lib.Dec.{leb, ltb, eqb}
+use Rattle.ray_tracing.specs.declared.Version.{Version}
+use Rattle.ray_tracing.specs.declared.Version.the-variants as version
 
 -- what was read before a field in its record, and in the section before
 pub record Seen : Type 0 where
@@ -130,7 +132,12 @@ bufferOrNone = telling noneKnown (u16 triangles any)
 abbrev pub presentByte : (Seen → Bool) → Field
 presentByte u = telling tagKnown (u8 u bit)
 
--- "Little-endian. Version byte 1, scratch alignment u32, counter u64": what follows the version byte
+-- "Little-endian. Version byte 1", and 2 of version 2
+abbrev pub versionNumber : Version → ℕ
+versionNumber version.One = 1
+versionNumber version.Two = 2
+
+-- "scratch alignment u32, counter u64": what follows the version byte
 abbrev pub header : Layout
 header = record { most = 1; fields = u32 always positive ∷ u64 always any ∷ [] }
 
@@ -186,16 +193,21 @@ tlases =
 abbrev pub entries : Layout
 entries = record { most = 64; fields = u16 always any ∷ u8 always bit ∷ u16 always any ∷ [] }
 
+-- "first vertex or primitive offset u32"; "version 2 of the sheet has the primitive offset as u64"
+abbrev pub offsetWidth : Version → ℕ
+offsetWidth version.One = 4
+offsetWidth version.Two = 8
+
 -- "6. Geometries: flags u8, count u32, first vertex or primitive offset u32, stride u64, buffer u16, vertex format u8, index format u8,
 -- index buffer u16, present u8, index count u32, present u8, first index u32, transform buffer u16, present u8, transform offset u64"
-abbrev pub geometries : Layout
-geometries =
+abbrev pub geometries : Version → Layout
+geometries v =
     record {
       most = 256;
       fields =
           u8 always any
           ∷ u32 always any
-          ∷ u32 always any
+          ∷ wide (offsetWidth v) always any
           ∷ u64 always any
           ∷ u16 always notNone
           ∷ u8 triangles any
@@ -233,7 +245,7 @@ abbrev pub actions : Layout
 actions =
     record { most = 64; fields = telling tagKnown (u8 always (oneTo 4)) ∷ u16 withOperand any ∷ [] }
 
--- the sections by number; the header stands as section 0
+-- the sections of version 1 by number; the header stands as section 0
 abbrev pub layout : ℕ → Layout
 layout k =
     getD
@@ -243,13 +255,17 @@ layout k =
     ∷ declaredGeometries
     ∷ tlases
     ∷ entries
-    ∷ geometries
+    ∷ geometries version.One
     ∷ packages
     ∷ slots
     ∷ actions
     ∷ [])
     k
     header
+
+-- those of a version: "all else the same"
+abbrev pub layoutIn : Version → ℕ → Layout
+layoutIn v k = cond (eqb k 6) (geometries v) (layout k)
 
 -- a record's bytes
 
@@ -259,6 +275,10 @@ total (f ∷ fs) = f .width + total fs
 
 abbrev pub size : ℕ → ℕ
 size k = total (layout k .fields)
+
+-- of a section of a version
+abbrev pub sizeIn : Version → ℕ → ℕ
+sizeIn v k = total (layoutIn v k .fields)
 
 -- where field j stands in a record at a place, and its width
 abbrev pub placeOf : List Field → ℕ → ℕ → ℕ

@@ -15,6 +15,7 @@ pub mod History
 pub mod Claim
 pub mod Meaning
 pub mod Canonical
+pub mod Conversion
 pub mod Groups
 pub mod Writing
 pub mod Report

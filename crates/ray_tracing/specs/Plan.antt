@@ -8,6 +8,7 @@ use lib.ListN.{length, getD}
 use lib.Seq.{sets}
 use lib.Dec.{leb, ltb, eqb}
 use Rattle.scratch.specs.Scratch.{addRounded}
+use Rattle.ray_tracing.specs.declared.Version.{Version}
 use Rattle.ray_tracing.specs.declared.Buffer.{Buffer}
 use Rattle.ray_tracing.specs.declared.Blas.{Blas}
 use Rattle.ray_tracing.specs.declared.BlasGeometrySizeDescriptor.{BlasGeometrySizeDescriptor}
@@ -20,7 +21,7 @@ use Rattle.ray_tracing.specs.declared.Verdict as code-verdict
 use Rattle.ray_tracing.specs.declared.Verdict.the-variants as verdict
 use Rattle.ray_tracing.specs.declared.Built.{Built}
 use Rattle.ray_tracing.specs.declared.Built.the-variants as built
-use Rattle.ray_tracing.specs.Layout.{layout, size}
+use Rattle.ray_tracing.specs.Layout.{layoutIn, size, sizeIn}
 use Rattle.ray_tracing.specs.Reading as reading
 use Rattle.ray_tracing.specs.Records.{fieldAt, bufferAt, blasAt, declaredAt, tlasAt, entryAt, geometryAt, packageAt}
 use Rattle.ray_tracing.specs.Causes.{Cause, cause, bare, buildCause}
@@ -31,8 +32,9 @@ use Rattle.ray_tracing.specs.Mentions.{bufferMention, blasMention, tlasM
 use Rattle.ray_tracing.specs.Instances.{presentAt, slotMention, slotRule, presentOf, slotsBytes}
 
 infixr 20 _or_
--- what a build is lent to read: the scratch alignment, and sections 1 to 8
+-- what a build is lent to read: the scratch alignment, and sections 1 to 8 of a version
 pub record Tables : Type 0 where
+  pub version : Version
   pub alignment : ℕ
   pub buffers : List ℕ
   pub blases : List ℕ
@@ -43,10 +45,11 @@ pub record Tables : Type 0 where
   pub packages : List ℕ
   pub slots : List ℕ
 
--- the scratch alignment and the eight tables, as a call is lent them
-abbrev pub tablesOf : ℕ → List ℕ → List ℕ → List ℕ → List ℕ → List ℕ → List ℕ → List ℕ → List ℕ → Tables
-tablesOf alignment buffers blases declared tlases entries geometries packages slots =
+-- the version, the scratch alignment and the eight tables, as a call is lent them
+abbrev pub tablesOf : Version → ℕ → List ℕ → List ℕ → List ℕ → List ℕ → List ℕ → List ℕ → List ℕ → List ℕ → Tables
+tablesOf v alignment buffers blases declared tlases entries geometries packages slots =
     record {
+      version = v;
       alignment = alignment;
       buffers = buffers;
       blases = blases;
@@ -59,9 +62,9 @@ tablesOf alignment buffers blases declared tlases entries geometries packages sl
     }
 
 -- those of a sheet, by section
-abbrev pub sheetTables : ℕ → (ℕ → List ℕ) → Tables
-sheetTables alignment table =
-    tablesOf alignment (table 1) (table 2) (table 3) (table 4) (table 5) (table 6) (table 7) (table 8)
+abbrev pub sheetTables : Version → ℕ → (ℕ → List ℕ) → Tables
+sheetTables v alignment table =
+    tablesOf v alignment (table 1) (table 2) (table 3) (table 4) (table 5) (table 6) (table 7) (table 8)
 
 -- nothing to refuse, or the first refusal: "E is entry and its geometry, or package and its slot, from 0 (second 0 where there is none)"
 pub data Verdict : Type 0 where
@@ -113,13 +116,13 @@ tableOf x k =
 
 -- how many records a section has
 abbrev pub recordsIn : Tables → ℕ → ℕ
-recordsIn x k = length (tableOf x k) / size k
+recordsIn x k = length (tableOf x k) / sizeIn (x .version) k
 
 abbrev pub entryOf : Tables → ℕ → BlasBuildEntry
 entryOf x i = entryAt (x .entries) (i * size 5)
 
 abbrev pub geometryOf : Tables → ℕ → BlasGeometry
-geometryOf x g = geometryAt (x .geometries) (g * size 6)
+geometryOf x g = geometryAt (x .version) (x .geometries) (g * sizeIn (x .version) 6)
 
 abbrev pub packageOf : Tables → ℕ → TlasPackage
 packageOf x p = packageAt (x .packages) (p * size 7)
@@ -168,7 +171,9 @@ bySection k reading.fine = passed
 bySection k (reading.refused n r) = refused k r (bare n)
 
 abbrev pub judgeLentSection : Tables → ℕ → Verdict
-judgeLentSection x k = bySection k (reading.judgeLent k (layout k) (size (k - 1)) (tableOf x (k - 1)) (tableOf x k))
+judgeLentSection x k =
+    bySection k
+    (reading.judgeLent k (layoutIn (x .version) k) (sizeIn (x .version) (k - 1)) (tableOf x (k - 1)) (tableOf x k))
 
 -- "0, 0 for the scratch alignment"
 unfoldable pub judgeTables : Tables → Verdict

@@ -1,14 +1,16 @@
 -- Reading: "Fields are judged from the start on, sums at the drawn section's count after its limit." The first refusal decides, with
 -- its number and its place. Assumes nothing.
 use Prim.Native.Nat.{ℕ, zero, suc, _+_, _-_, _*_, _/_, _%_}
-use mathlib.Core.Bool.{Bool, true, false, not, cond}
+use mathlib.Core.Bool.{Bool, true, false, not, _||_, cond}
 use mathlib.Core.List.{List, [], _∷_}
 use lib.ListN.{length, take, drop}
 use lib.Dec.{ltb, eqb}
 use Rattle.wire.specs.Wire.{leAt}
+use Rattle.ray_tracing.specs.declared.Version.{Version}
+use Rattle.ray_tracing.specs.declared.Version.the-variants as version
 use Rattle.ray_tracing.specs.declared.Section.{Section}
 use Rattle.ray_tracing.specs.declared.Sheet.{Sheet}
-use Rattle.ray_tracing.specs.Layout.{Seen, Field, fits, Layout, layout, total, size}
+use Rattle.ray_tracing.specs.Layout.{Seen, Field, fits, Layout, layout, layoutIn, total, size, sizeIn}
 
 infixr 20 _andNext_
 -- nothing to refuse, or a refusal's number and its place: the first byte of the judged field, or a lent table's record
@@ -78,10 +80,14 @@ addsUp k t n =
 
 -- The sheet
 
+-- the version of a sheet that is taken, 1 or 2
+unfoldable pub versionIn : List ℕ → Version
+versionIn s = cond (eqb (leAt 1 s 0) 2) version.Two version.One
+
 -- where section k ends; section 0, the header, stands after the version byte
 unfoldable pub past : List ℕ → ℕ → ℕ
 past s zero = 1 + size 0
-past s (suc k) = past s k + 2 + leAt 2 s (past s k) * size (k + 1)
+past s (suc k) = past s k + 2 + leAt 2 s (past s k) * sizeIn (versionIn s) (k + 1)
 
 -- where the records of section k begin: after its u16 count
 unfoldable pub from : List ℕ → ℕ → ℕ
@@ -96,20 +102,31 @@ table s k = take (past s k - from s k) (drop (from s k) s)
 unfoldable pub judgeSection : List ℕ → ℕ → ℕ → ℕ → Judged
 judgeSection s k a p =
     judgedWhen (ltb (length s) (p + 2)) (refused 2 p)
-    andNext judgedWhen (ltb (layout (k + 1) .most) (leAt 2 s p)) (refused 4 p)
+    andNext judgedWhen (ltb (layoutIn (versionIn s) (k + 1) .most) (leAt 2 s p)) (refused 4 p)
     andNext judgedWhen (not (addsUp (k + 1) (take (p - a) (drop a s)) (leAt 2 s p))) (refused 5 p)
-    andNext judgeTable (k + 1) (layout (k + 1) .fields) (size k) (take (p - a) (drop a s)) s (p + 2) (leAt 2 s p)
+    andNext judgeTable
+    (k + 1)
+    (layoutIn (versionIn s) (k + 1) .fields)
+    (sizeIn (versionIn s) k)
+    (take (p - a) (drop a s))
+    s
+    (p + 2)
+    (leAt 2 s p)
 
 -- the n sections after section k
 unfoldable pub judgeSections : List ℕ → ℕ → ℕ → Judged
 judgeSections s k zero = fine
 judgeSections s k (suc n) = judgeSection s k (from s k) (past s k) andNext judgeSections s (k + 1) n
 
--- "version not 1; sheet ends early; bytes after it": 1 at the version byte, and "for 3 the first byte left over"
+-- "For the reader 1 now means neither 1 nor 2."
+abbrev pub taken : ℕ → Bool
+taken n = eqb n 1 || eqb n 2
+
+-- "sheet ends early; bytes after it": 1 at the version byte, and "for 3 the first byte left over"
 unfoldable pub judgeSheet : List ℕ → Judged
 judgeSheet s =
     judgedWhen (ltb (length s) 1) (refused 2 0)
-    andNext judgedWhen (not (eqb (leAt 1 s 0) 1)) (refused 1 0)
+    andNext judgedWhen (not (taken (leAt 1 s 0))) (refused 1 0)
     andNext judgeRecords (begin 0 [] false) (layout 0 .fields) s 1 1
     andNext judgeSections s 0 9
     andNext judgedWhen (ltb (past s 9) (length s)) (refused 3 (past s 9))
@@ -121,7 +138,7 @@ sectionOf s k = record { start = past s k + 2; count = leAt 2 s (past s k) }
 abbrev pub sheetOf : List ℕ → Sheet
 sheetOf s =
     record {
-      version = leAt 1 s 0;
+      version = versionIn s;
       alignment = leAt 4 s 1;
       counter = leAt 8 s 5;
       buffers = sectionOf s 0;

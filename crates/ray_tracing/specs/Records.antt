@@ -4,6 +4,7 @@ use Prim.Native.Nat.{ℕ, _/_, _%_}
 use mathlib.Core.List.{List}
 use lib.Dec.{eqb}
 use Rattle.wire.specs.Wire.{leAt}
+use Rattle.ray_tracing.specs.declared.Version.{Version}
 use Rattle.ray_tracing.specs.declared.Buffer.{Buffer}
 use Rattle.ray_tracing.specs.declared.Blas.{Blas}
 use Rattle.ray_tracing.specs.declared.BlasGeometrySizeDescriptor.{BlasGeometrySizeDescriptor}
@@ -11,11 +12,15 @@ use Rattle.ray_tracing.specs.declared.Tlas.{Tlas}
 use Rattle.ray_tracing.specs.declared.BlasBuildEntry.{BlasBuildEntry}
 use Rattle.ray_tracing.specs.declared.BlasGeometry.{BlasGeometry}
 use Rattle.ray_tracing.specs.declared.TlasPackage.{TlasPackage}
-use Rattle.ray_tracing.specs.Layout.{layout, placeOf, widthOf}
+use Rattle.ray_tracing.specs.Layout.{Field, geometries, layout, placeOf, widthOf}
 
--- field j of a record of section k at a place
+-- field j of a record with the fields fs at a place
+abbrev pub fieldOf : List Field → List ℕ → ℕ → ℕ → ℕ
+fieldOf fs t at j = leAt (widthOf fs j) t (placeOf fs at j)
+
+-- of a record of section k
 abbrev pub fieldAt : ℕ → List ℕ → ℕ → ℕ → ℕ
-fieldAt k t at j = leAt (widthOf (layout k .fields) j) t (placeOf (layout k .fields) at j)
+fieldAt k = fieldOf (layout k .fields)
 
 -- marks: 1 BLAS_INPUT, 2 destroyed
 abbrev pub bufferAt : List ℕ → ℕ → Buffer
@@ -69,24 +74,25 @@ abbrev pub entryAt : List ℕ → ℕ → BlasBuildEntry
 entryAt t at =
     record { blas = record { 0 = fieldAt 5 t at 0 }; kind = fieldAt 5 t at 1; «geometry_count» = fieldAt 5 t at 2 }
 
-abbrev pub geometryAt : List ℕ → ℕ → BlasGeometry
-geometryAt t at =
+-- "the shared geometry record widens with it": a geometry of either version
+abbrev pub geometryAt : Version → List ℕ → ℕ → BlasGeometry
+geometryAt v t at =
     record {
-      flags = fieldAt 6 t at 0;
-      count = fieldAt 6 t at 1;
-      first = fieldAt 6 t at 2;
-      stride = fieldAt 6 t at 3;
-      buffer = record { 0 = fieldAt 6 t at 4 };
-      «vertex_format» = fieldAt 6 t at 5;
-      «index_format» = fieldAt 6 t at 6;
-      «index_buffer» = record { 0 = fieldAt 6 t at 7 };
-      «index_count_present» = fieldAt 6 t at 8;
-      «index_count» = fieldAt 6 t at 9;
-      «first_index_present» = fieldAt 6 t at 10;
-      «first_index» = fieldAt 6 t at 11;
-      «transform_buffer» = record { 0 = fieldAt 6 t at 12 };
-      «transform_buffer_offset_present» = fieldAt 6 t at 13;
-      «transform_buffer_offset» = fieldAt 6 t at 14;
+      flags = fieldOf (geometries v .fields) t at 0;
+      count = fieldOf (geometries v .fields) t at 1;
+      first = fieldOf (geometries v .fields) t at 2;
+      stride = fieldOf (geometries v .fields) t at 3;
+      buffer = record { 0 = fieldOf (geometries v .fields) t at 4 };
+      «vertex_format» = fieldOf (geometries v .fields) t at 5;
+      «index_format» = fieldOf (geometries v .fields) t at 6;
+      «index_buffer» = record { 0 = fieldOf (geometries v .fields) t at 7 };
+      «index_count_present» = fieldOf (geometries v .fields) t at 8;
+      «index_count» = fieldOf (geometries v .fields) t at 9;
+      «first_index_present» = fieldOf (geometries v .fields) t at 10;
+      «first_index» = fieldOf (geometries v .fields) t at 11;
+      «transform_buffer» = record { 0 = fieldOf (geometries v .fields) t at 12 };
+      «transform_buffer_offset_present» = fieldOf (geometries v .fields) t at 13;
+      «transform_buffer_offset» = fieldOf (geometries v .fields) t at 14;
     }
 
 abbrev pub packageAt : List ℕ → ℕ → TlasPackage

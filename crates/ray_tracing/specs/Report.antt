@@ -153,8 +153,10 @@ answerLines counter x a (recorded size w) =
 -- built with room for all that it writes
 unfoldable pub builtLines : List ℕ → Sheet → List ℕ
 builtLines s x =
-    answerLines (x .counter) (sheetTables (x .alignment) (table s)) (table s 9)
-    (build (sheetTables (x .alignment) (table s)) (planOf (sheetTables (x .alignment) (table s))))
+    answerLines (x .counter) (sheetTables (x .version) (x .alignment) (table s)) (table s 9)
+    (build
+    (sheetTables (x .version) (x .alignment) (table s))
+    (planOf (sheetTables (x .version) (x .alignment) (table s))))
 
 -- "A refused sheet prints only `sheet`, number, place"
 abbrev pub readingLines : List ℕ → Reading → List ℕ

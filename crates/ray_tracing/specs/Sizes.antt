@@ -2,16 +2,22 @@
 use Prim.Native.Nat.{ℕ, zero, suc, _+_, _*_}
 use mathlib.Core.List.{List}
 use lib.ListN.{length}
-use Rattle.ray_tracing.specs.Layout.{layout, size}
+use Rattle.ray_tracing.specs.declared.Version.{Version}
+use Rattle.ray_tracing.specs.declared.Version.the-variants as version
+use Rattle.ray_tracing.specs.Layout.{layout, layoutIn, size, sizeIn}
 use Rattle.ray_tracing.specs.Report.{word-build, word-scratch, word-blas, word-tlas, word-submit, word-next}
 
--- the longest sheet that is accepted
-unfoldable pub sectionsUpTo : ℕ → ℕ
-sectionsUpTo zero = 0
-sectionsUpTo (suc k) = sectionsUpTo k + 2 + layout (k + 1) .most * size (k + 1)
+-- the longest sheet of a version that is accepted
+unfoldable pub sectionsUpTo : Version → ℕ → ℕ
+sectionsUpTo v zero = 0
+sectionsUpTo v (suc k) = sectionsUpTo v k + 2 + layoutIn v (k + 1) .most * sizeIn v (k + 1)
 
+abbrev pub longestOf : Version → ℕ
+longestOf v = 1 + size 0 + sectionsUpTo v 9
+
+-- of either: version 2 has the wider geometries
 abbrev pub longest : ℕ
-longest = 1 + size 0 + sectionsUpTo 9
+longest = longestOf version.Two
 
 -- the most bytes of a line with n numbers
 abbrev pub longestLine : List ℕ → ℕ → ℕ

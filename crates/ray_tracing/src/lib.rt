@@ -1,6 +1,7 @@
 // Ids, the records of lent tables by value, and what the entry points answer. The paper as definitions stands in specs/.
 ghost use mathlib.Core.Path.{_≡_};
 ghost use mathlib.Core.Bool.{_&&_, _||_, cond};
+ghost use Rattle.ray_tracing.specs.Layout.{sizeIn};
 ghost use Rattle.ray_tracing.specs.Plan.{_or_};
 ghost use Rattle.ray_tracing.specs.Code.{verdictOf};
 
@@ -15,7 +16,10 @@ pub const TLAS_SIZE: usize = 22;
 
 pub const ENTRY_SIZE: usize = 5;
 
+// A geometry's in version 1 of the sheet, and in version 2.
 pub const GEOMETRY_SIZE: usize = 44;
+
+pub const WIDE_GEOMETRY_SIZE: usize = 48;
 
 pub const PACKAGE_SIZE: usize = 4;
 
@@ -41,6 +45,12 @@ pub const NAME_SIZE: usize = 3;
 
 // The cells of each Tlas's list.
 pub const TLAS_ROOM: usize = 512;
+
+// The version of a sheet, or of the geometries that a build is lent: how wide their offsets are.
+pub enum Version {
+    One,
+    Two,
+}
 
 pub struct BufferId(pub u16);
 
@@ -95,7 +105,7 @@ pub struct BlasBuildEntry {
 pub struct BlasGeometry {
     pub flags: u8,
     pub count: u32,
-    pub first: u32,
+    pub first: u64,
     pub stride: u64,
     pub buffer: BufferId,
     pub vertex_format: u8,
@@ -146,7 +156,7 @@ pub struct Section {
 }
 
 pub struct Sheet {
-    pub version: u8,
+    pub version: Version,
     pub alignment: u32,
     pub counter: u64,
     pub buffers: Section,
@@ -169,6 +179,15 @@ pub enum SheetRead {
 pub enum SheetWritten {
     Written(usize),
     Refused(SheetError, usize),
+    TooShort,
+}
+
+// What converting a sheet came to: how many bytes were written, why the sheet is not read and where, the place of an offset that does not fit
+// the narrower field, or too little room.
+pub enum SheetConverted {
+    Written(usize),
+    Refused(SheetError, usize),
+    TooFar(usize),
     TooShort,
 }
 
@@ -472,6 +491,16 @@ pub fn either(a: bool, b: bool) -> bool
     ensures { λ r. ⌜ r ≡ (a || b) ⌝ }
 {
     if a { true } else { b }
+}
+
+// A geometry's size.
+pub fn geometry_size(version: Version) -> usize
+    ensures { λ r. ⌜ r ≡ sizeIn version 6 ⌝ }
+{
+    match version {
+        Version::One => GEOMETRY_SIZE,
+        Version::Two => WIDE_GEOMETRY_SIZE,
+    }
 }
 
 // The first of two verdicts that refuses.
