@@ -1,15 +1,7 @@
--- No record is without bytes, so that a table's length can be divided by its size; and what the last arm of a `match` on numbers knows.
-use Prim.Native.Nat.{ℕ, zero, suc, _≤_, _<_}
+-- What the last arm of a `match` on numbers knows.
+use Prim.Native.Nat.{ℕ, zero, suc, _≤_}
 use native.Mathlib.Omega.{arith}
-use mathlib.Core.Bool.{true}
-use mathlib.Core.Path.{_≡_, refl}
-use lib.Dec.{ltb}
-use borrow.Author.Tests.{ltb-true}
-use Rattle.ray_tracing.specs.Layout.{size}
-use Rattle.sheet_layout.proofs.Table.{each}
-
-pub size-positive : (k : ℕ) → k < 10 → 0 < size k
-size-positive k h = ltb-true 0 (size k) (each (λ (j : ℕ). ltb 0 (size j) ≡ true) 10 (refl, (refl, (refl, (refl, (refl, (refl, (refl, (refl, (refl, (refl, tt)))))))))) k h)
+use mathlib.Core.Path.{_≡_}
 
 -- what is known of r in the last arm of a `match` with the arms 0 to n - 1
 abbrev None : ℕ → ℕ → Type 0

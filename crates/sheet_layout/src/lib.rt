@@ -1,16 +1,32 @@
 // The layout's numbers as code: a section's record size, the most records that it may have, and counts that add up.
+use ray_tracing::ENTRY_SIZE;
+use ray_tracing::PACKAGE_SIZE;
+use ray_tracing::Version;
+use ray_tracing::geometry_size;
+use wire::u8_at;
 use wire::u16_at;
 ghost use mathlib.Core.Path.{_≡_};
 ghost use Prim.Native.Nat.{_+_, _/_, _≤_, _<_};
 ghost use lib.ListN.{length};
 ghost use lib.Dec.{eqb};
-ghost use Rattle.ray_tracing.specs.Layout.{layout, size};
-ghost use Rattle.ray_tracing.specs.Reading.{sumOfCounts, addsUp};
+ghost use Rattle.ray_tracing.specs.Layout.{layout, sizeIn};
+ghost use Rattle.ray_tracing.specs.Reading.{sumOfCounts, addsUp, versionIn};
+
+// The version of a sheet whose version byte is 1 or 2.
+pub fn version_in(sheet: &[u8]) -> Version
+    requires { ⌜ 1 ≤ length (now sheet) ⌝ }
+    ensures { λ r. ⌜ r ≡ versionIn (now (sheet .entry)) ⌝ }
+{
+    if u8_at(sheet, 0) == 2 {
+        return Version::Two;
+    }
+    Version::One
+}
 
 // A record's size; the header stands as section 0.
-pub fn size_of(section: usize) -> usize
+pub fn size_of(version: Version, section: usize) -> usize
     requires { ⌜ section < 10 ⌝ }
-    ensures { λ r. ⌜ r ≡ size section ⌝ }
+    ensures { λ r. ⌜ r ≡ sizeIn version section ⌝ }
 {
     match section {
         0 => 12,
@@ -19,7 +35,7 @@ pub fn size_of(section: usize) -> usize
         3 => 18,
         4 => 22,
         5 => 5,
-        6 => 44,
+        6 => geometry_size(version),
         7 => 4,
         8 => 56,
         _ => 3,
@@ -45,7 +61,7 @@ pub fn most_of(section: usize) -> usize
     }
 }
 
-// How many records of `each` bytes there are; none, where a record has no bytes. A record's size is one of ten, and a number that is known
+// How many records of `each` bytes there are; none, where a record has no bytes. A record's size is one of eleven, and a number that is known
 // is divided by without a division.
 pub fn records_in(bytes: usize, each: usize) -> usize
     ensures { λ r. ⌜ r ≡ bytes / each ⌝ }
@@ -60,6 +76,7 @@ pub fn records_in(bytes: usize, each: usize) -> usize
         22 => bytes / 22,
         28 => bytes / 28,
         44 => bytes / 44,
+        48 => bytes / 48,
         56 => bytes / 56,
         _ => bytes / each,
     }
@@ -92,10 +109,10 @@ pub fn adds_up(section: usize, before: &[u8], n: usize) -> bool
     ensures { λ r. ⌜ r ≡ addsUp section (now (before .entry)) n ⌝ }
 {
     if section == 6 {
-        return sums_to(before, size_of(5), 3, n);
+        return sums_to(before, ENTRY_SIZE, 3, n);
     }
     if section == 8 {
-        return sums_to(before, size_of(7), 2, n);
+        return sums_to(before, PACKAGE_SIZE, 2, n);
     }
     true
 }

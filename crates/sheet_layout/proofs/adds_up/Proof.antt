@@ -1,6 +1,5 @@
 -- `sheet_layout::adds_up` meets its contract: section by section.
 use native.Mathlib.Omega.{arith}
-use borrow.Author.Needs.{needs}
 use borrow.Author.Tests.{eq-eqb, ne-eqb}
 use Rattle.sheet_layout.proofs.adds_up.Statement.{statement}
 use Rattle.sheet_layout.proofs.adds_up.Tie as tie
@@ -9,10 +8,8 @@ pub adds-up-spec : {M : Type 1} → statement M
 adds-up-spec =
     tie.close
     (tie.spec
-    (λ c κs. search needs)
-    (λ c κs. rw (c .size-of .ensures) (omega arith, omega arith))
-    (λ c. rw (eq-eqb _ 6 (c .before .before .if1 .taken)) (rw (c .before .size-of .ensures) at (c .sums-to .ensures)))
-    (λ c κs. search needs)
-    (λ c κs. rw (c .size-of2 .ensures) (omega arith, omega arith))
-    (λ c. rw (ne-eqb _ 6 (c .before .before .before .if1 .left), eq-eqb _ 8 (c .before .before .if2 .taken)) (rw (c .before .size-of2 .ensures) at (c .sums-to2 .ensures)))
+    (λ c κs. (omega arith, omega arith))
+    (λ c. rw (eq-eqb _ 6 (c .before .if1 .taken)) (c .sums-to .ensures))
+    (λ c κs. (omega arith, omega arith))
+    (λ c. rw (ne-eqb _ 6 (c .before .before .if1 .left), eq-eqb _ 8 (c .before .if2 .taken)) (c .sums-to2 .ensures))
     (λ c. rw (ne-eqb _ 6 (c .before .if1 .left), ne-eqb _ 8 (c .if2 .left))))

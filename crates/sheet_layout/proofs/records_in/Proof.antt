@@ -10,7 +10,7 @@ pub records-in-spec : {M : Type 1} → statement M
 records-in-spec =
     tie.close
     (tie.spec
-    (λ c. omega (arith, c .match .rest .0 .0 .0 .0 .0 .0 .0 .0 .0 .1))
+    (λ c. omega (arith, c .match .rest .0 .0 .0 .0 .0 .0 .0 .0 .0 .0 .1))
     (λ c. rw (c .match .keys1) (sym (div-zero (c .before .args .bytes))))
     (λ c. rw (c .match .keys2))
     (λ c. rw (c .match .keys3))
@@ -21,4 +21,5 @@ records-in-spec =
     (λ c. rw (c .match .keys8))
     (λ c. rw (c .match .keys9))
     (λ c. rw (c .match .keys10))
+    (λ c. rw (c .match .keys11))
     (λ c. search needs))
