@@ -6,7 +6,7 @@ import sys
 sys.dont_write_bytecode = True
 here = pathlib.Path(__file__).resolve().parent
 
-from layout import COUNT_WIDTH, HEAD, HEAD_SIZE, LONGEST, NONE, SECTIONS, section, single, size  # noqa: E402
+from layout import COUNT_WIDTH, HEAD, HEAD_SIZE, NONE, SECTIONS, VERSIONS, longest, section, sections, single, size  # noqa: E402
 from refusals import CAUSES  # noqa: E402
 from text import make, show  # noqa: E402
 from walk import Walked, allowed_words, spoken  # noqa: E402
@@ -38,7 +38,12 @@ the words for a refused field, and the reading in `tests/`. `format/generate.py 
 
 A sheet says what acceleration structures there are, what is to be built, and what is then submitted. All numbers are little-endian. The
 head comes first, then nine sections in this order: a section is its count, a u16, and as many records, each its fields end to end. Nothing
-follows. The shortest sheet has {shortest} bytes, the longest {longest}. The tables that the library takes are the sections' records without the count.
+follows. The shortest sheet has {shortest} bytes, the longest {longest}. The tables that the library takes
+are the sections' records without the count.
+
+There are two versions. They have the same fields and differ in the version byte and in one width: a geometry's `first` is a u32 in version 1 and
+a u64 in version 2, so that what comes after it in its record stands four bytes further on. Where two places or widths are given below, the
+second is version 2's. In the library `zakvind_build` takes geometries of version 1 and `zakvind_build_wide` those of version 2.
 
 Fields are judged from the start on. Each has to be whole (else the sheet is refused by 2) and, if it is used, to have a value that it may
 have (else 5; the version: 1). A count has to be whole (2), within its limit (4) and, in a section that is drawn from, the sum of the counts
@@ -64,6 +69,7 @@ marked; what is cut off or left over is only said.
   as give it back; a NaN is written by its bits, as `nan:7fc00000`. In a slot `at X Y Z` stands for the transform that only moves it there.
 - A field that is left out is 0, but: an index or transform buffer of triangles is `none`; a present byte is 1 if what it says is there is
   given, and a slot's if any of its fields is; `version` is 1; counts are those of the text. A count that is given is taken as it is given.
+  `version 2` may stand on any line, and the `first` of each geometry then holds up to 2^64 - 1.
 - `#` begins a comment. What stands in parentheses is a remark, and is ignored: so is shown what an id names, that a field is unused, and
   what is refused.
 
@@ -100,7 +106,22 @@ below; for 1 to 6 another names the field or the id.
 
 E is entry and its geometry, or package and its slot, from 0; the second is 0 where there is none. In the library, a refused table is
 (section, record). "Both" is declared, given. Of groups of slots 2 to 5 have their byte place too. Of many instances in one call E is 0 and
-the position of the refused one, from 0; 0, 0 for the Tlas and for 39.
+the position of the refused one, from 0; 0, 0 for the Tlas and for 39. Of a conversion 1 is called "version not 1" or "version not 2", by the
+version that it comes from.
+"""
+
+CONVERTED = """\
+## One version from the other
+
+`./zakvind --to-2 SHEET` and `zakvind_to_version_2` take a sheet of version 1 and write it as one of version 2, `./zakvind --to-1 SHEET` and
+`zakvind_to_version_1` the other way. Only the version byte and the width of each `first` change: every other byte is the same, those of unused
+fields too, and there and back gives the sheet's own bytes. What is printed for the two is the same, but they never mean the same, since the
+version is part of what a sheet means; `--canonical` keeps it.
+
+Version 2 takes 4 bytes more for each geometry, and every sheet of version 1 that is read can be written so. The other way needs each `first`,
+a first vertex or the offset of boxes, to be below 2^32. Judged are, in this order: that there is a first byte (2) and that it is the version to
+come from (1, whatever follows); then all that a reader judges (2 to 5); then, to version 1 only, each `first` from the start on (47, with its
+byte place in the sheet that is read); then the room (39). Of a refused sheet nothing is written.
 """
 
 GROUPS = """\
@@ -131,8 +152,15 @@ What `zakvind_append_instances` takes: instances end to end, {bytes} bytes each,
 """
 
 
-def width_words(f):
-    kind = "f32" if f.float32 else f"u{8 * f.width}"
+def by_version(*numbers):
+    """One number where all versions have the same, else each version's."""
+    return ", ".join(map(str, dict.fromkeys(numbers)))
+
+
+def width_words(*fields):
+    """Of a field as each version has it."""
+    f = fields[0]
+    kind = by_version(*("f32" if f.float32 else f"u{8 * f.width}" for f in fields))
     return f"{kind} × {f.times}" if f.times > 1 else kind
 
 
@@ -182,26 +210,31 @@ def note_words(f):
     return "; ".join(filter(None, (id_words(f), draws, f.note, code)))
 
 
-def fields_table(s, fields):
+def fields_table(s, *versions):
+    """Of the fields as each version has them."""
     yield "| At | Field | Width | Values | Used | What it is |"
     yield "|---|---|---|---|---|---|"
     seen = set()
-    for f, at, _ in single(fields):
+    for of in zip(*map(single, versions), strict=True):
+        f = of[0][0]
         if f.name in seen:
             continue
         seen.add(f.name)
-        yield f"| {at} | `{f.name}` | {width_words(f)} | {value_words(f)} | {used_words(s, f) if s else 'always'} | {note_words(f)} |"
+        at, width = by_version(*(at for _, at, _ in of)), width_words(*(own for own, _, _ in of))
+        yield f"| {at} | `{f.name}` | {width} | {value_words(f)} | {used_words(s, f) if s else 'always'} | {note_words(f)} |"
     yield ""
 
 
-def section_text(s):
+def section_text(s, *versions):
+    """Of a section as each version has it."""
     yield f"### {s.number}. {s.title or s.name.capitalize()}"
     yield ""
     drawn = f" Drawn in turn by the {section(s.drawn_by).name}, whose counts have to add up to this section's." if s.drawn_by else ""
     code = f" In code a record is `{s.code}`." if s.code else ""
-    yield f"At most {s.most}, of {size(s.fields)} bytes each.{drawn}{code}"
+    least, *wider = dict.fromkeys(size(v.fields) for v in versions)
+    yield f"At most {s.most}, of {least} bytes each{''.join(f', {n} in version 2' for n in wider)}.{drawn}{code}"
     yield ""
-    yield from fields_table(s, s.fields)
+    yield from fields_table(s, *(v.fields for v in versions))
 
 
 class Accepted:
@@ -222,15 +255,17 @@ def example_shown():
 
 def page():
     shortest = HEAD_SIZE + COUNT_WIDTH * len(SECTIONS)
-    yield INTRODUCTION.format(shortest=shortest, longest=f"{LONGEST:,}")
+    most = " and ".join(f"{longest(v):,} in version {v}" for v in VERSIONS)
+    yield INTRODUCTION.format(shortest=shortest, longest=most)
     yield "## Head\n"
     yield f"{HEAD_SIZE} bytes.\n"
     yield from fields_table(None, HEAD)
     yield "## Sections\n"
-    for s in SECTIONS:
-        yield from section_text(s)
+    for of in zip(*map(sections, VERSIONS), strict=True):
+        yield from section_text(of[0], *of)
     ones = ", ".join(f"`{s.one}`" for s in SECTIONS)
     yield AS_TEXT.format(ones=ones, example=EXAMPLE, shown=example_shown())
+    yield CONVERTED
     slots = section(8)
     yield GROUPS.format(groups=64, slot=size(slots.fields), most=slots.most, room=slots.most * size(slots.fields), next_one=slots.most + 1)
     yield INSTANCES.format(bytes=size(slots.fields) - 1)

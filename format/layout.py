@@ -4,10 +4,13 @@ Numbers are little-endian. A sheet is the head's fields, then each section: its 
 fields end to end. Fields are judged from the start on: each is whole (else 2), then, where it is used, its value is one that it may
 have (else 5), but for the version (else 1). A count is whole (2), at most the section's `most` (4), and that of a drawn section the
 sum of the counts that draw it (5). Nothing follows section 9 (3).
+
+There are two versions. They differ in the version byte and in the width of one field, which says so (`in_later`). `sections` has the layout of
+either, and whatever reads or writes bytes asks for it by the version; SECTIONS is version 1's, and serves where only names and limits count.
 """
 from typing import NamedTuple
 
-VERSION = 1
+VERSIONS = (1, 2)
 NONE = 65535  # in a field with `none`: no buffer
 COUNT_WIDTH = 2
 
@@ -40,6 +43,7 @@ class Field(NamedTuple):
     draws: int = 0  # it counts the records that this record draws in turn from that section
     code: str = ""  # its name in code, where that is another
     note: str = ""
+    in_later: dict = {}  # its width in a later version than 1, by the version
 
 
 class Section(NamedTuple):
@@ -70,7 +74,7 @@ WITH_TRANSFORM = (*TRIANGLES, ("given", "transform_buffer"))
 SLOT = (("present", "present"),)
 
 HEAD = (
-    Field("version", 1, ("one of", VERSION)),
+    Field("version", 1, ("one of", *VERSIONS)),
     Field("alignment", 4, ("at least", 1), note="of scratch sizes"),
     Field("counter", 8, note="the number that the next build takes"),
 )
@@ -157,7 +161,7 @@ SECTIONS = (
         (
             Field("flags", 1),
             Field("count", 4, note="of vertices, or of boxes"),
-            Field("first", 4, note="first vertex, or the boxes' offset in bytes"),
+            Field("first", 4, note="first vertex, or the boxes' offset in bytes", in_later={2: 8}),
             Field("stride", 8),
             Field("buffer", 2, ("except", NONE), id_of=1),
             Field("vertex_format", 1, used=TRIANGLES),
@@ -214,7 +218,20 @@ SECTIONS = (
 )
 
 
+def in_version(s, version):
+    return s._replace(fields=tuple(f._replace(width=f.in_later.get(version, f.width)) for f in s.fields))
+
+
+BY_VERSION = {version: tuple(in_version(s, version) for s in SECTIONS) for version in VERSIONS}
+
+
+def sections(version):
+    """The sections as a version has them."""
+    return BY_VERSION[version]
+
+
 def section(number):
+    """A section by its number, for its names and its limit."""
     return SECTIONS[number - 1]
 
 
@@ -232,10 +249,18 @@ def single(fields):
             at += f.width
 
 
-HEAD_SIZE = size(HEAD)
-SIZES = tuple(size(s.fields) for s in SECTIONS)
-LIMITS = tuple(s.most for s in SECTIONS)
-# as long as a sheet can be
-LONGEST = HEAD_SIZE + sum(COUNT_WIDTH + s.most * size(s.fields) for s in SECTIONS)
+def sizes(version):
+    """The bytes of a record of each section."""
+    return tuple(size(s.fields) for s in sections(version))
 
-assert (HEAD_SIZE, SIZES, LONGEST) == (13, (9, 28, 18, 22, 5, 44, 4, 56, 3), 56415)
+
+def longest(version):
+    """As long as a sheet can be."""
+    return HEAD_SIZE + sum(COUNT_WIDTH + s.most * size(s.fields) for s in sections(version))
+
+
+HEAD_SIZE = size(HEAD)
+LIMITS = tuple(s.most for s in SECTIONS)
+
+assert (HEAD_SIZE, sizes(1), longest(1)) == (13, (9, 28, 18, 22, 5, 44, 4, 56, 3), 56415)
+assert (sizes(2), longest(2)) == ((9, 28, 18, 22, 5, 48, 4, 56, 3), 57439)

@@ -12,7 +12,7 @@ BOTH = ("declared", "given")
 NEEDED = ("needed", "given")
 
 CAUSES = {
-    1: Cause("version not 1", (), "byte place"),
+    1: Cause("version neither 1 nor 2", (), "byte place"),
     2: Cause("sheet ends early", (), "byte place: of the field that is not whole"),
     3: Cause("bytes after the sheet", (), "byte place: of the first left over"),
     4: Cause("count above its limit", (), "byte place, E or action"),
@@ -55,4 +55,5 @@ CAUSES = {
     44: Cause("Blas newer than Tlas", ("Blas", "Tlas"), "action, Blas, Tlas"),
     45: Cause("count 0, or a group that is not an earlier one", (), "group, item, 0 where there is none"),
     46: Cause("more than 512 slots", (), "group, item: of the 513th slot"),
+    47: Cause("first vertex or primitive offset above 2^32 - 1", (), "byte place: of the first that does not fit"),
 }

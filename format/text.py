@@ -3,11 +3,11 @@ import re
 from collections import Counter
 
 import floats
-from layout import COUNT_WIDTH, HEAD, NONE, SECTIONS, VERSION, section
+from layout import COUNT_WIDTH, HEAD, NONE, SECTIONS, VERSIONS, section, sections
 from walk import SINGLE, Walked, is_used, named, spoken
 
 BY_ONE = {s.one: s for s in SECTIONS}
-FIELDS = {(s.number, f.name): f for s in SECTIONS for f in s.fields}
+FIELDS = {(s.number, f.name): f for s in sections(max(VERSIONS)) for f in s.fields}  # none is wider in another version
 WIDTH = 120
 DIGITS = re.compile("[0-9]+")
 IDENTITY = (1.0, 0.0, 0.0, 0.0, 0.0, 1.0, 0.0, 0.0, 0.0, 0.0, 1.0, 0.0)
@@ -18,7 +18,7 @@ class BadText(Exception):
 
 
 # the names of each field of a section, as many as there are of it; and those that a present byte says are there
-NAMES = {(s.number, f.name): [n for g, _, n in SINGLE[s.number] if g is f] for s in SECTIONS for f in s.fields}
+NAMES = {(s.number, f.name): [n for g, _, n in SINGLE[1, s.number] if g.name == f.name] for s in SECTIONS for f in s.fields}
 BEHIND = {(s.number, f.name): {g.name for g in s.fields if g.used and g.used[-1] == ("present", f.name)} for s in SECTIONS for f in s.fields}
 
 
@@ -231,9 +231,15 @@ def value_of(f, word, line):
         value = floats.parse(word) if f.float32 else number_of(f, word)
     except ValueError as e:
         raise BadText(line, f"{f.name}: {e}") from None
-    if value >= 256**f.width:
-        raise BadText(line, f"{f.name}: {word} does not fit {f.width} byte{'s' * (f.width > 1)}, which hold 0 to {256**f.width - 1}")
+    hold(f, value, word, line)
     return value
+
+
+def hold(f, value, word, line):
+    """What a field's bytes cannot hold is refused."""
+    if value >= 256**f.width:
+        wider = "".join(f"; in version {v} there are {width}" for v, width in f.in_later.items() if width > f.width)
+        raise BadText(line, f"{f.name}: {word} does not fit {f.width} byte{'s' * (f.width > 1)}, which hold 0 to {256**f.width - 1}{wider}")
 
 
 class Made:
@@ -274,10 +280,10 @@ class Made:
         """The line of a field; of one that is left out the record's."""
         return self.lines.get(name.rstrip("_0123456789"), self.line)
 
-    def values(self):
+    def values(self, fields):
         """(field, value) of each field, those that are left out included."""
         values = {}
-        for f in self.section.fields:
+        for f in fields:
             if f.name in self.given:
                 own = self.given[f.name]
             elif f.draws:
@@ -287,11 +293,11 @@ class Made:
             values[f.name] = own[0]
             yield from ((f, v) for v in own)
 
-    def bytes(self):
+    def bytes(self, fields):
+        """By the fields as the sheet's version has them: it may stand anywhere in the text."""
         out = b""
-        for f, value in self.values():
-            if value >= 256**f.width:
-                raise BadText(self.line, f"{f.name}: {value} does not fit {f.width} bytes")
+        for f, value in self.values(fields):
+            hold(f, value, value, self.line_of(f.name))
             out += value.to_bytes(f.width, "little")
         return out
 
@@ -334,17 +340,18 @@ class Text:
                 r.put(at, part)
 
     def bytes(self):
-        head = {"version": VERSION, "alignment": 0, "counter": 0, **self.head}
+        head = {"version": 1, "alignment": 0, "counter": 0, **self.head}
         out = b"".join(head[f.name].to_bytes(f.width, "little") for f in HEAD)
         for r in self.records[3]:
             blas = r.given.get("blas", [0])[0]
             blases = self.records[2]
             r.boxes = blas < len(blases) and blases[blas].given.get("kind") == [1]
-        for s in SECTIONS:
+        # a version that there is not is refused before any width counts
+        for s in sections(head["version"] if head["version"] in VERSIONS else 1):
             records = self.records[s.number]
             if len(records) >= 256**COUNT_WIDTH:
                 raise BadText(records[-1].line, f"{len(records)} {s.name} are more than a count holds")
-            out += len(records).to_bytes(COUNT_WIDTH, "little") + b"".join(r.bytes() for r in records)
+            out += len(records).to_bytes(COUNT_WIDTH, "little") + b"".join(r.bytes(s.fields) for r in records)
         return out
 
     def line_of(self, refusal):

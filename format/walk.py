@@ -1,16 +1,16 @@
 """A sheet's bytes walked by the format: its fields with their places, and the first refusal of 1 to 5.
 
 The walk goes on past a value outside its field, a count above its limit and counts that do not add up, as far as the bytes reach, so
-that all of a refused sheet can be looked at; it stops at a version that is not 1 and where the bytes end.
+that all of a refused sheet can be looked at; it stops at a version that there is not and where the bytes end.
 """
 import struct
 from typing import NamedTuple
 
-from layout import COUNT_WIDTH, HEAD, LIMITS, NONE, SECTIONS, VERSION, section, single
+from layout import COUNT_WIDTH, HEAD, LIMITS, NONE, VERSIONS, section, sections, single
 
 
-# each section's fields with their places and names, and a whole record
-SINGLE = {s.number: tuple(single(s.fields)) for s in SECTIONS}
+# by version and section: the fields with their places and names, and a whole record
+SINGLE = {(v, s.number): tuple(single(s.fields)) for v in VERSIONS for s in sections(v)}
 WHOLE = {k: struct.Struct("<" + "".join({1: "B", 2: "H", 4: "I", 8: "Q"}[f.width] for f, _, _ in fields)) for k, fields in SINGLE.items()}
 
 
@@ -49,6 +49,10 @@ class Walked:
             pass
         self.left = len(data) - self.at
 
+    @property
+    def version(self):
+        return self.head["version"]
+
     def refuse(self, *refusal):
         if self.refusal is None:
             self.refusal = Refusal(*refusal)
@@ -65,12 +69,12 @@ class Walked:
         for f in HEAD:
             place, value = self.at, self.take(f.width, name=f.name)
             self.head[f.name] = value
-            if f.name == "version" and value != VERSION:
-                self.refuse(1, place, 0, -1, f.name, f"is {value}, may be {VERSION}")
-                return
             if not allows(f, value, self.count_of):
-                self.refuse(5, place, 0, -1, f.name, f"is {value}, may be {allowed_words(f, self.count_of)}")
-        for s in SECTIONS:
+                is_version = f.name == "version"
+                self.refuse(1 if is_version else 5, place, 0, -1, f.name, f"is {value}, may be {allowed_words(f, self.count_of)}")
+                if is_version:
+                    return
+        for s in sections(self.version):
             self.walk_section(s)
         if self.at < len(self.data):
             more = len(self.data) - self.at
@@ -94,15 +98,15 @@ class Walked:
     def walk_record(self, s, table, i, boxes):
         r = Record(self.at, boxes)
         table.records.append(r)
-        for f, at, name, value, allowed in judged(s, r, self.values(s, i), self.blas_kind, self.count_of):
+        for f, at, name, value, allowed in judged(self.version, s, r, self.values(s, i), self.blas_kind, self.count_of):
             if not allowed:
                 self.refuse(5, r.place + at, s.number, i, name, f"is {value}, may be {allowed_words(f, self.count_of)}")
 
     def values(self, s, i):
         """A record's numbers: at once where all of it is there, else one by one."""
-        whole = WHOLE[s.number]
+        whole = WHOLE[self.version, s.number]
         if self.at + whole.size > len(self.data):
-            return (self.take(f.width, s.number, i, name) for f, _, name in SINGLE[s.number])
+            return (self.take(f.width, s.number, i, name) for f, _, name in SINGLE[self.version, s.number])
         self.at += whole.size
         return whole.unpack_from(self.data, self.at - whole.size)
 
@@ -122,9 +126,9 @@ def bytes_said(n):
     return f"{n} byte is" if n == 1 else f"{n} bytes are"
 
 
-def judged(s, r, values, blas_kind, count_of):
+def judged(version, s, r, values, blas_kind, count_of):
     """The fields of a record in turn, as (field, place in it, name, value, whether it may have that value); r is filled with them."""
-    for (f, at, name), value in zip(SINGLE[s.number], values):
+    for (f, at, name), value in zip(SINGLE[version, s.number], values):
         r.values[name] = value
         used = not f.used or is_used(f, r.values, r.boxes)
         if not used:
