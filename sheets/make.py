@@ -8,6 +8,7 @@ import sys
 here = pathlib.Path(__file__).resolve().parent
 sys.path.insert(0, str(here.parent / "tests"))
 
+from convert import convert, converted, offsets  # noqa: E402
 from groups import open_groups, opened  # noqa: E402
 from make_groups_cases import data_of  # noqa: E402
 from make_read_cases import record, sheet, worked  # noqa: E402
@@ -69,6 +70,26 @@ def collection(actions, counter=9, vertices=960, scratch=True, build=True):
     return sheet(sections + [[record(9, *a) for a in actions]], 256, counter)
 
 
+BOXES = 80_000_000  # of a geometry, 24 bytes each
+
+
+def far_boxes():
+    """Version 2: one Blas of four geometries, whose boxes are one after the other in one buffer, those of the last past 2^32."""
+    rows = [record(6, 1, BOXES, 24 * BOXES * i, 24, 0, *[0] * 10, version=2) for i in range(4)]
+    sections = [
+        [record(1, 4 * 24 * BOXES, 1)],
+        [record(2, 1, 0, 0, 0, 1_000_000, 0x1_0000, 0)],
+        [record(3, 0, 1, BOXES, 0, 0, 0, 0, 0, 0)] * 4,
+        [record(4, 0, 0, 4_096, 1, 0)],
+        [record(5, 0, 1, 4)],
+        rows,
+        [record(7, 0, 1)],
+        [slot(0, 0, 0.0, 0.0)],
+        [record(9, BUILD, 0), record(9, USE, 0)],
+    ]
+    return sheet(sections, 256, 1, version=2)
+
+
 def sheets():
     build_and_use = [(BUILD, 0), (USE, 0), (USE, 1)]
     whole = collection(build_and_use)
@@ -78,6 +99,7 @@ def sheets():
     yield "damaged", whole[:2000]
     yield "refused-build", collection(build_and_use, vertices=959)
     yield "nothing-recorded", collection([(BUILD, 0), (USE, 0)], build=False)
+    yield "far-boxes", far_boxes()
 
 
 def nested():
@@ -103,6 +125,16 @@ def main():
     said = (f"its {len(nested())} bytes", f"{len(slots) // 56} slots, {len(slots)} bytes", words_for(6, number, place, 0, 0, 0, 0))
     if not all(words in readme for words in said):
         wrong.append("what README.md has for nested.groups")
+    data = far_boxes()
+    (number, place, _), _ = convert(1, data, b"")
+    firsts = [int.from_bytes(data[at : at + width], "little") for at, width in offsets(Walked(data))]
+    said = (f"its {len(data)} bytes", words_for(9, number, place, 0, 0, 0, 0), f"byte {firsts[-1]:,}", f"{BOXES:,} boxes", f"{4 * 24 * BOXES:,} bytes")
+    if not all(words in readme for words in said):
+        wrong.append(f"what README.md has for converting far-boxes: {said}")
+    # what is read in version 1 is printed alike in version 2
+    for name, data in sheets():
+        if data[0] == 1 and not Walked(data).refusal and told(converted(data)) != told(data):
+            wrong.append(f"{name} in version 2")
     for name, data in sheets():
         if not put(here / f"{name}.sheet", data):
             wrong.append(f"{name}.sheet")

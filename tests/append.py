@@ -3,10 +3,10 @@ definitions: a call for one, one call after another, and the call for many."""
 import struct
 
 from paper import blas, records, slot, tlas
-from reading import SIZES
+from reading import sizes
 
 # "a slot's fields after its present byte"
-ITEM = SIZES[7] - 1
+ITEM = sizes(1)[7] - 1
 INSTANCE = 64
 assert ITEM == 55
 
@@ -19,13 +19,13 @@ def split(items):
 
 def in_table(blases, item):
     """An item's fields, and its Blas, or none outside of the table."""
-    fields, known = slot(b"\1" + item), records(blases, 2)
+    fields, known = slot(b"\1" + item), records(1, blases, 2)
     return fields, blas(known[fields["blas"]]) if fields["blas"] < len(known) else None
 
 
 def judge_tlas(tlases, id):
     """ "6 for the Tlas", or 0."""
-    return 6 if id >= len(records(tlases, 4)) else 0
+    return 6 if id >= len(records(1, tlases, 4)) else 0
 
 
 def judge_item(tlases, blases, id, item):
@@ -35,7 +35,7 @@ def judge_item(tlases, blases, id, item):
         return 6
     if fields["custom"] >= 2**24:
         return 34
-    if tlas(records(tlases, 4)[id])["flags"] & 2 and not named["flags"] & 2:
+    if tlas(records(1, tlases, 4)[id])["flags"] & 2 and not named["flags"] & 2:
         return 35
     return 0
 

@@ -1,6 +1,7 @@
 """A reading of the request for a canonical writer over the sheet's description in format/, written apart from the definitions: what an
-accepted sheet means, and its canonical bytes. Neither goes by the other, so that each can be held to it."""
-from reading import HEAD, SECTIONS, Walked, read, single
+accepted sheet means, and its canonical bytes. Neither goes by the other, so that each can be held to it. By request 6 the writer "writes the
+version that it read, and two sheets of different versions never count as meaning the same"."""
+from reading import HEAD, Walked, read, sections, single
 
 
 def accepted(data):
@@ -11,8 +12,8 @@ def accepted(data):
 
 
 def meaning(data):
-    """ "what the reader yields, unused fields aside and f32 by bits, with each Blas's declared list in order": the head's numbers, and each
-    section's records as their fields, None for an unused one; the declared geometries as a list for each Blas."""
+    """ "what the reader yields, unused fields aside and f32 by bits, with each Blas's declared list in order": the head's numbers, the version
+    among them, and each section's records as their fields, None for an unused one; the declared geometries as a list for each Blas."""
     walked = accepted(data)
     sections = [tuple(tuple(None if name in r.unused else v for name, v in r.values.items()) for r in t.records) for t in walked.tables]
     declared = [[] for _ in walked.tables[1].records]
@@ -31,7 +32,7 @@ def canonical(data):
     """The sheet's bytes: "unused fields zero, declared geometries by Blas number and, within a Blas, in their old order"."""
     walked = accepted(data)
     out = b"".join(walked.head[f.name].to_bytes(f.width, "little") for f in HEAD)
-    for section, table in zip(SECTIONS, walked.tables):
+    for section, table in zip(sections(walked.version), walked.tables):
         records = table.records
         if section.name == "declared":
             records = sorted(records, key=lambda r: r.values["blas"])  # sorted keeps the order of equals

@@ -3,10 +3,10 @@ from the definitions: what is judged of one, and the slots that it opens to."""
 import itertools
 import sys
 
-from reading import SECTIONS, single
+from reading import section, single
 
 # "a slot's fields after its present byte"
-PRESENT, *FIELDS = [f.width for f, _, _ in single(next(s.fields for s in SECTIONS if s.one == "slot"))]
+PRESENT, *FIELDS = [f.width for f, _, _ in single(section(8).fields)]
 SLOT = PRESENT + sum(FIELDS)
 MOST_GROUPS = 64
 MOST_SLOTS = 512

@@ -1,12 +1,13 @@
 #!/usr/bin/env python3
 """Writes crates/cases_build/stdin and stdout: builds over lent tables, and the answers of paper.py.
 
-A case: sixteen u32, the scratch alignment, the lengths of the eight tables in bytes and of the seven lent outputs in elements; then the
-tables. Its line: number, E, three figures, recorded, scratch size, how many elements of each output are written, and a hash of each
+A case: seventeen u32, the scratch alignment, the lengths of the eight tables in bytes and of the seven lent outputs in elements, the version;
+then the tables. Its line: number, E, three figures, recorded, scratch size, how many elements of each output are written, and a hash of each
 output's whole array, which was filled with a pattern before.
 
 The reading is held to itself for 37: the place is the first one up to which the sizes, each rounded, sum to 2^64 - 1 or more; and the builds
-that are refused by it are those whose larger total comes to 2^64 - 1 where roundings and sums stop there.
+that are refused by it are those whose larger total comes to 2^64 - 1 where roundings and sums stop there. And for the version: the same values
+are answered alike in either.
 """
 import copy
 import functools
@@ -15,8 +16,9 @@ import random
 import struct
 from collections import Counter
 
-from make_read_cases import record
+from make_read_cases import ABOUT_2_32, FIRST, record
 from paper import NONE, U64, build
+from reading import LIMITS, VERSIONS, sizes
 from rounding import rounded
 
 ARRAYS = (72, 40, 80, 33024, 2400, 72, 700)
@@ -27,6 +29,7 @@ M = 4294967291
 def base():
     """Three Blases, triangles with and without indices and transform, and boxes; two Tlases; every output is written."""
     return dict(
+        version=1,
         alignment=256,
         buffers=[[1000, 1], [48, 1], [600, 1], [36, 1]],
         blases=[[0, 4, 0, 0, 300, 4096, 9], [0, 1, 1, 0, 10, 8192, 0], [1, 6, 2, 0, 512, 2**63, 3]],
@@ -58,7 +61,7 @@ SECTIONS = ("buffers", "blases", "declared", "tlases", "entries", "geometries", 
 
 
 def tables(x):
-    return [b"".join(record(k, *r) for r in x[name]) for k, name in enumerate(SECTIONS, 1)]
+    return [b"".join(record(k, *r, version=x["version"]) for r in x[name]) for k, name in enumerate(SECTIONS, 1)]
 
 
 def changed(*edits):
@@ -70,6 +73,16 @@ def changed(*edits):
         else:
             x[section][i][j] = value
     return x
+
+
+def as_version(version, x):
+    return dict(x, version=version)
+
+
+def flat(some):
+    """Each build by itself, where several are yielded at once."""
+    for x in some:
+        yield from x if isinstance(x, tuple) else (x,)
 
 
 def refusals():
@@ -142,10 +155,51 @@ def refusals():
     yield changed((t, 0, 1, 1)), changed((t, 1, 1, 1), (b, 0, 3, 1)), changed((b, 0, 3, 1)), changed((b, 1, 3, 1), (b, 0, 2, 3)), changed((b, 0, 2, 3)), changed((b, 2, 2, 3), (b, 2, 3, 1))
 
 
+def wide_boxes():
+    """Boxes from 2^32 on: 32, 33, 26 and 23 over whole numbers. Regions that end at the buffer's end, a byte before and past it; sums that would
+    come back to 0 where they wrap; a stride or a region that is too large, which 26 refuses whatever the offset is."""
+    g, b = ("geometries", 3), ("buffers", 2)
+    for first in (*ABOUT_2_32, 2**32 - 8, 2**32 + 4, 2**32 + 8, 2**40, 2**63 + 8, 2**64 - 480, 2**64 - 488, 2**64 - 8):
+        for size in sorted({600, U64, *(n for n in (first + 480, first + 479, first + 481, (first + 480) % 2**64) if n <= U64)}):
+            yield changed((*g, 2, first), (*b, 0, size))
+        for count, stride in ((0, 24), (20, 16), (20, 2**32 - 8), (0, 2**32), (20, 2**64 - 8), (1, 2**32 - 8)):
+            yield changed((*g, 2, first), (*g, 1, count), (*g, 3, stride), (*b, 0, U64))
+        yield changed((*g, 2, first), (*b, 1, 3)), changed((*g, 2, first), (*b, 1, 0)), changed((*g, 2, first), (*g, 1, 21))
+    declared = ("declared", 1, 2, 2**32 - 1)
+    for first in (2**32 - 8, 2**32, 2**64 - 2**32, 2**64 - 2**32 + 8):
+        for count in (178956970, 178956971):
+            yield changed(declared, (*g, 2, first), (*g, 1, count), (*b, 0, U64))
+
+
+def wide_vertices():
+    """First vertices from 2^32 on, of a geometry whose stride may be any: 23 over whole numbers. Products below 2^64, at it and past it, such as
+    would come back to 0 or to little where they wrap, and a stride of 0, by which every vertex is at byte 0."""
+    g, b = ("geometries", 0), ("buffers", 0)
+    free = (("declared", 0, 4, 0), ("declared", 0, 5, 1))
+    firsts = (0, *ABOUT_2_32, 2**32 - 3, 2**32 + 1, 2**62, 2**63 - 3, 2**64 - 3, 2**64 - 4)
+    for first in firsts:
+        for stride in (0, 1, 2, 3, 4, 12, 2**31, 2**32 - 1, 2**32, 2**32 + 1, 2**63, U64):
+            for size in sorted({0, 1000, U64, *(n for n in ((first + 3) * stride, (first + 3) * stride - 1) if 0 <= n <= U64)}):
+                yield changed(*free, (*g, 2, first), (*g, 3, stride), (*b, 0, size))
+    # factors of 2^64 - 1: the region ends there, or one stride further on
+    for stride in (3, 5, 17, 257, 641, 65537, 6700417):
+        for more in (0, 1):
+            yield changed(*free, (*g, 2, U64 // stride - 3 + more), (*g, 3, stride), (*b, 0, U64))
+    # none at all from there on, and what is judged before and after
+    for first in firsts:
+        yield changed(*free, (*g, 1, 0), (*g, 2, first), (*b, 0, U64)), changed(*free, (*g, 1, 0), (*g, 2, first), (*g, 3, 1), (*b, 0, U64))
+        yield changed((*g, 2, first), (*g, 3, 11)), changed((*g, 2, first), (*b, 1, 2)), changed(*free, (*g, 2, first), (*g, 3, 0), (*g, 10, 0))
+        yield changed(*free, (*g, 2, first), (*g, 3, 0), (*g, 11, 145)), changed(("geometries", 2, 2, first), ("buffers", 3, 0, U64), ("geometries", 2, 14, 8))
+
+
+def wide_refusals():
+    yield from (as_version(2, x) for x in flat((*wide_boxes(), *wide_vertices())))
+
+
 def needing(alignment, blases, tlases):
     """A build whose entries and packages need these sizes and have neither geometries nor slots. Their Blases and Tlases come in another order,
     where there is room after one that no entry or package names: a place is no id, and only what is built counts."""
-    x = dict({name: [] for name in SECTIONS}, alignment=alignment)
+    x = dict({name: [] for name in SECTIONS}, version=1, alignment=alignment)
     x["blases"] = [[0, 4, 0, 0, size, 4096, 1] for size in (U64, *reversed(blases))]
     x["entries"] = [[len(blases) - i, 0, 0] for i in range(len(blases))]
     one = len(tlases) < 32
@@ -255,47 +309,54 @@ def total_cases():
 
 def all_cases():
     room = ARRAYS
-    yield base(), room
-    for some in refusals():
-        for x in some if isinstance(some, tuple) else (some,):
-            yield x, room
+    for version in VERSIONS:
+        for x in (base(), *flat(refusals())):
+            yield as_version(version, x), room
+    for x in wide_refusals():
+        yield x, room
     # each output exactly full, and one element less; also with nothing recorded
     zero = changed(*[("blases", i, 4, 0) for i in range(3)], *[("tlases", i, 2, 0) for i in range(2)])
-    for x in (base(), zero):
-        lengths = [len(o or []) for o in build(x["alignment"], tables(x), room)[1]]
+    far = as_version(2, changed(("geometries", 3, 2, 2**40), ("buffers", 2, 0, 2**41)))
+    for x in (base(), zero, far):
+        lengths = [len(o or []) for o in build(x["version"], x["alignment"], tables(x), room)[1]]
         yield x, tuple(lengths)
         for i in range(7):
             if lengths[i]:
                 yield x, tuple(n - (k == i) for k, n in enumerate(lengths))
     empty = {name: [] for name in SECTIONS}
-    yield dict(empty, alignment=1), (0,) * 7
+    for version in VERSIONS:
+        yield dict(empty, version=version, alignment=1), (0,) * 7
     # compacted and short: 38 before 39
     yield changed(("blases", 0, 2, 3)), (0,) * 7
     choose = random.Random(7)
-    for _ in range(400):
-        x = base()
+    for i in range(600):
+        x = base() if i < 400 else as_version(2, base())
         for _ in range(choose.randint(1, 4)):
             name = choose.choice(SECTIONS)
             i = choose.randrange(len(x[name]))
             j = choose.randrange(len(x[name][i]))
             width = {"slots": 1}.get(name, 1)
             x[name][i][j] = choose.choice((0, 1, 2, 3, x[name][i][j], max(0, x[name][i][j] - 1), min(x[name][i][j] + 1, 255) if width else 0))
+        if i >= 400 and choose.random() < 0.7:
+            r, size = choose.choice(x["geometries"]), choose.choice(x["buffers"])
+            r[FIRST[1]] = choose.choice((*ABOUT_2_32, 2**32 + 8 * choose.randrange(2**20), choose.randrange(2**64)))
+            size[0] = choose.choice((size[0], 2**33, U64, choose.randrange(2**64)))
         if choose.random() < 0.3:
             x["geometries"] += copy.deepcopy(x["geometries"][3:])
             x["entries"][2][2] += 1
         yield x, tuple(choose.choice((n, n, n, choose.randrange(12))) for n in room)
 
 
-def table_cases():
+def table_cases(version=1):
     """Limits, sums and part records of lent tables."""
     for k, name in enumerate(SECTIONS, 1):
-        t = tables(base())
+        t = tables(as_version(version, base()))
         for extra in (b"\0", bytes(3)):
             yield t[: k - 1] + [t[k - 1] + extra] + t[k:]
-    for k, most in enumerate((256, 128, 512, 32, 64, 256, 32, 512), 1):
+    for k, most in enumerate(LIMITS[:8], 1):
         for n in (most, most + 1):
             t = [b""] * 8
-            one = {3: record(3, 0, 0, 0, 0, 0, 1, 0, 0, 0)}.get(k, bytes((9, 28, 18, 22, 5, 44, 4, 56)[k - 1]))
+            one = {3: record(3, 0, 0, 0, 0, 0, 1, 0, 0, 0)}.get(k, bytes(sizes(version)[k - 1]))
             t[k - 1] = one * n
             if k == 3:
                 t[1] = bytes(28)
@@ -304,6 +365,24 @@ def table_cases():
             if k == 8:
                 t[6] = record(7, 0, n)
             yield t
+
+
+def other_tables():
+    """Geometries of the other version: as many bytes as are no whole records, and as are fewer or more of them."""
+    for version in VERSIONS:
+        yield version, tables(as_version(3 - version, base()))
+        size, other = sizes(version)[5], sizes(3 - version)[5]
+        for n in (1, 11, 12, 22, 24):
+            t = [b""] * 8
+            t[5] = bytes(other * n)
+            for count in sorted({n, other * n // size}):
+                t[4] = record(5, 0, 1, count)
+                yield version, list(t)
+    t = tables(base())
+    # bytes that are left over, as many as one record has more than the other
+    yield 1, [*t[:5], t[5] + bytes(4), *t[6:]]
+    yield 2, [*t[:5], *tables(as_version(2, base()))[5:6], *t[6:]]
+    yield 2, [*t[:5], tables(as_version(2, base()))[5][:-4], *t[6:]]
 
 
 def agrees(x, answer):
@@ -338,15 +417,21 @@ def hashed(values, index):
 def main():
     folder = pathlib.Path(__file__).resolve().parent.parent / "crates/cases_build"
     folder.mkdir(exist_ok=True)
-    lines, seen, places = [], Counter(), Counter()
-    cases = [(x, x["alignment"], tables(x), room) for x, room in (*all_cases(), *total_cases())]
-    cases += [(None, 256, t, ARRAYS) for t in table_cases()]
+    lines, seen, places, wide = [], Counter(), Counter(), Counter()
+    cases = [(x, x["version"], x["alignment"], tables(x), room) for x, room in (*all_cases(), *total_cases())]
+    cases += [(None, version, 256, t, ARRAYS) for version in VERSIONS for t in table_cases(version)]
+    cases += [(None, version, 256, t, ARRAYS) for version, t in other_tables()]
     with open(folder / "stdin", "wb") as out:
-        for x, alignment, t, room in cases:
-            out.write(struct.pack("<16I", alignment, *(len(s) for s in t), *room) + b"".join(t))
-            answer, outputs = build(alignment, t, room)
+        for x, version, alignment, t, room in cases:
+            out.write(struct.pack("<17I", alignment, *(len(s) for s in t), *room, version) + b"".join(t))
+            answer, outputs = build(version, alignment, t, room)
             if x and not agrees(x, answer):
                 raise SystemExit(f"the reading is at odds with itself: {answer} for {x}")
+            if x and all(r[FIRST[1]] < 2**32 for r in x["geometries"]):
+                other = as_version(3 - version, x)
+                assert build(other["version"], alignment, tables(other), room) == (answer, outputs), x
+            elif x:
+                wide[answer[0]] += 1
             seen[answer[0]] += 1
             if answer[0] == 37:
                 places[answer[3], answer[1]] += 1
@@ -355,8 +440,11 @@ def main():
             lines.append(" ".join(map(str, (*answer, *counts, *hashes))))
     assert {(1, 0), (1, 63), (2, 0), (2, 31)} <= set(places), places
     (folder / "stdout").write_text("".join(line + "\n" for line in lines))
+    # what is refused at or behind a wide offset, and what is not
+    assert {0, 15, 21, 22, 23, 24, 26, 29, 31, 32, 33} <= set(wide), wide
     sorts = ", ".join(f"{sum(n for (of, _), n in places.items() if of == sort)} with {sort}" for sort in (1, 2))
     print(f"{len(cases)} builds; " + ", ".join(f"{n} of {k}" for k, n in sorted(seen.items())) + f"; of 37 {sorts}")
+    print(f"{sum(wide.values())} with an offset or a first vertex from 2^32 on; " + ", ".join(f"{n} of {k}" for k, n in sorted(wide.items())))
 
 
 if __name__ == "__main__":

@@ -10,7 +10,7 @@ from printed import CALLS, words
 
 
 def cases():
-    for call in (*range(9), U64):
+    for call in (*range(12), U64):
         for number in (*range(50), U64 - 1, U64):
             yield call, number, 1, 2, 3, 4, 5
             yield call, number, U64, U64, U64, U64, U64
@@ -26,9 +26,12 @@ def cases():
     for position in (0, 1, 2, 511, 512, 2**32, U64):
         for number in CALLS[7]:
             yield from ((7, number, e0, position, 15, 16, 17) for e0 in (0, 18))
+    for place in (0, 1, 30, 56415, 57439, 2**32 - 1, 2**32, U64):
+        for call in (1, 5, 8, 9):
+            yield from ((call, number, place, 22, 23, 24, 25) for number in (*range(1, 6), 39, 46, 47, 48))
     rng = random.Random(27)
     for _ in range(300):
-        call = rng.randrange(1, 8)
+        call = rng.choice(list(CALLS))
         yield call, rng.choice(CALLS[call]), *(rng.choice((rng.randrange(5), rng.randrange(U64 + 1))) for _ in range(5))
 
 

@@ -1,7 +1,7 @@
 #!/usr/bin/env python3
 """Writes crates/cases_write/stdin, pairs of sheets, each sheet after its length and the room that it is written into, as u32s; and
 crates/cases_write/stdout, by canonical.py a line for each sheet: number, place, bytes written and a hash of all the room, filled with a
-pattern before; and after two that are written whether they mean the same.
+pattern before; and after two that are written whether they mean the same. Sheets are of either version, and some pairs of one and the other.
 
 The reading is held to itself: over all sheets that are made, two mean the same exactly when their canonical bytes are equal, and canonical
 bytes are read, mean the same and are their own canonical bytes."""
@@ -10,8 +10,8 @@ import random
 import struct
 
 from canonical import accepted, canonical, meaning, write
-from make_read_cases import at_limit, cases as read_cases, put, record, rich, sheet, worked
-from reading import LIMITS, NONE, SECTIONS, SIZES, is_used, read, single
+from make_read_cases import ABOUT_2_32, at_limit, cases as read_cases, put, record, rich, sheet, worked
+from reading import LIMITS, NONE, VERSIONS, is_used, longest, read, sections, single, sizes
 
 PATTERN = 165
 M = 4294967291
@@ -68,24 +68,28 @@ def parts(rng, total, n):
 
 
 class Made:
-    """A sheet by its fields' values."""
+    """A sheet by its fields' values: alignment, counter and version, and the records."""
 
-    def __init__(self, head, sections):
-        self.head, self.sections = head, sections
+    def __init__(self, head, tables):
+        self.head, self.tables = head, tables
+
+    @property
+    def version(self):
+        return self.head[2]
 
     def data(self):
-        return sheet([[record(s.number, *r) for r in rs] for s, rs in zip(SECTIONS, self.sections)], *self.head)
+        return sheet([[record(k, *r, version=self.version) for r in rs] for k, rs in enumerate(self.tables, 1)], *self.head)
 
     def kinds(self):
-        return [r[0] for r in self.sections[1]]
+        return [r[0] for r in self.tables[1]]
 
     def drawn(self):
-        return [r[1] == 1 for r in self.sections[4] for _ in range(r[2])]
+        return [r[1] == 1 for r in self.tables[4] for _ in range(r[2])]
 
 
-def some_sheet(rng, counts):
-    made = Made((rng.choice((1, 256, 2**32 - 1, rng.randrange(1, 2**32))), any_value(rng, 8)), [])
-    for s, n in zip(SECTIONS, counts):
+def some_sheet(rng, counts, version=1):
+    made = Made((rng.choice((1, 256, 2**32 - 1, rng.randrange(1, 2**32))), any_value(rng, 8), version), [])
+    for s, n in zip(sections(version), counts):
         if s.number == 3 and not counts[1]:
             n = 0
         due = [()] * n
@@ -95,24 +99,24 @@ def some_sheet(rng, counts):
         if s.drawn_by and not counts[s.drawn_by - 1]:
             due = []
         drawn = made.drawn() if s.kind == "entry" else [False] * len(due)
-        kinds = made.kinds() if len(made.sections) > 1 else []
-        made.sections.append([some_record(rng, s, boxes, kinds, given=given) for boxes, given in zip(drawn, due)])
+        kinds = made.kinds() if len(made.tables) > 1 else []
+        made.tables.append([some_record(rng, s, boxes, kinds, given=given) for boxes, given in zip(drawn, due)])
     return made
 
 
 def other_leftovers(rng, made):
     """The same sheet with other unused fields, and its declared geometries in another order, but for those of one Blas."""
-    sections = list(made.sections)
+    tables = list(made.tables)
     lists = {}
-    for r in sections[2]:
+    for r in tables[2]:
         lists.setdefault(r[0], []).append(r)
-    order = [r[0] for r in sections[2]]
+    order = [r[0] for r in tables[2]]
     rng.shuffle(order)
-    sections[2] = [lists[b].pop(0) for b in order]
-    for s in SECTIONS:
-        drawn = made.drawn() if s.kind == "entry" else [False] * len(sections[s.number - 1])
-        sections[s.number - 1] = [some_record(rng, s, boxes, made.kinds(), old) for old, boxes in zip(sections[s.number - 1], drawn)]
-    return Made(made.head, sections)
+    tables[2] = [lists[b].pop(0) for b in order]
+    for s in sections(made.version):
+        drawn = made.drawn() if s.kind == "entry" else [False] * len(tables[s.number - 1])
+        tables[s.number - 1] = [some_record(rng, s, boxes, made.kinds(), old) for old, boxes in zip(tables[s.number - 1], drawn)]
+    return Made(made.head, tables)
 
 
 def one_bit_off(rng, data):
@@ -127,26 +131,26 @@ def one_bit_off(rng, data):
 # ---- pairs
 
 
-def field_pairs():
+def field_pairs(version):
     """Each field of a small sheet of each section, in each state that its record can have: every bit of it, as long as the sheet is read."""
-    sections = rich()
+    full = rich(version)
     small = {
-        1: ((1, [sections[0][0]]),),
-        2: ((2, sections[1][:1]),),
-        3: ((2, sections[1]), (3, [*sections[2], record(3, 0, 0, 3, 1, 12, 1, 0, 1, 5)])),
-        4: ((4, sections[3][:1]),),
-        5: ((5, [sections[4][2]]),),
-        6: ((5, sections[4]), (6, sections[5])),
-        7: ((7, [sections[6][1]]),),
-        8: ((7, [record(7, 0, 2)]), (8, sections[7][:2])),
-        9: ((9, sections[8]),),
+        1: ((1, [full[0][0]]),),
+        2: ((2, full[1][:1]),),
+        3: ((2, full[1]), (3, [*full[2], record(3, 0, 0, 3, 1, 12, 1, 0, 1, 5)])),
+        4: ((4, full[3][:1]),),
+        5: ((5, [full[4][2]]),),
+        6: ((5, full[4]), (6, full[5])),
+        7: ((7, [full[6][1]]),),
+        8: ((7, [record(7, 0, 2)]), (8, full[7][:2])),
+        9: ((9, full[8]),),
     }
-    yield from bit_pairs(sheet([[]] * 9), 0, 13)
+    yield from bit_pairs(sheet([[]] * 9, version=version), 0, 13)
     for k, some in small.items():
         tables = [[] for _ in range(9)]
         for i, records in some:
             tables[i - 1] = records
-        data = sheet(tables)
+        data = sheet(tables, version=version)
         walked = accepted(data)
         table = walked.tables[k - 1]
         for r in table.records:
@@ -162,22 +166,43 @@ def bit_pairs(data, at, width):
             yield data, other
 
 
-def draw_pairs():
+def draw_pairs(version=1):
     """The same records drawn by others, of the same kind or not."""
     for kinds in ((0, 0), (0, 1), (1, 1)):
         for counts in ((1, 1), (0, 2), (2, 0)):
-            tables = rich()
+            tables = rich(version)
             tables[4] = [record(5, 0, kind, n) for kind, n in zip(kinds, (1, 1))]
             tables[5] = tables[5][:1] * 2
             other = list(tables)
             other[4] = [record(5, 0, kind, n) for kind, n in zip(kinds, counts)]
-            yield sheet(tables), sheet(other)
+            yield sheet(tables, version=version), sheet(other, version=version)
     for counts in ((0, 3), (3, 0), (1, 2)):
-        tables = rich()
+        tables = rich(version)
         tables[6] = [record(7, 0, 2), record(7, 0, 1)]
         other = list(tables)
         other[6] = [record(7, 0, n) for n in counts]
-        yield sheet(tables), sheet(other)
+        yield sheet(tables, version=version), sheet(other, version=version)
+
+
+def first_pairs():
+    """Wide offsets of either kind of geometry, each beside itself and beside those that agree with it in some of their bytes."""
+    every = (0, 8, *ABOUT_2_32, 2**32 + 8, 2**40 + 8, 2**63 + 8)
+    for a, b in [*zip(every, every[1:]), *zip(every, every)]:
+        for at in range(3):
+            pair = [[8, 8, 8], [8, 8, 8]]
+            pair[0][at], pair[1][at] = a, b
+            yield tuple(sheet(rich(2, firsts), version=2) for firsts in pair)
+
+
+def version_pairs():
+    """A sheet of one version beside the other's with the same values, and with the same bytes where those are read: never the same."""
+    bare = [[] if 4 <= k <= 5 else records for k, records in enumerate(rich())]
+    for tables in ([[]] * 9, bare):
+        yield sheet(tables, version=1), sheet(tables, version=2)
+        yield sheet(tables, version=2), sheet(tables, version=1)
+    for make in (worked, lambda version: sheet(rich(version), version=version)):
+        for a, b in ((1, 2), (2, 1), (2, 2)):
+            yield make(a), make(b)
 
 
 def nan_pairs():
@@ -192,24 +217,25 @@ def nan_pairs():
         yield one(1, *[a] * 12), one(1, *[a] * 12)
 
 
-def order_pairs(rng):
+def order_pairs(rng, version=1):
     """Declared geometries of a few Blases, of either kind: two neighbours swapped, of one Blas or of two, alike or not; and all reversed."""
     for _ in range(40):
-        made = some_sheet(rng, (0, rng.randint(1, 4), rng.randint(2, 6), 0, 0, 0, 0, 0, 0))
-        declared = made.sections[2]
+        made = some_sheet(rng, (0, rng.randint(1, 4), rng.randint(2, 6), 0, 0, 0, 0, 0, 0), version)
+        declared = made.tables[2]
         i = rng.randrange(len(declared) - 1)
         for other in ([*declared[:i], declared[i + 1], declared[i], *declared[i + 2 :]], declared[::-1]):
-            yield made.data(), Made(made.head, [*made.sections[:2], other, *made.sections[3:]]).data()
+            yield made.data(), Made(made.head, [*made.tables[:2], other, *made.tables[3:]]).data()
 
 
-def random_pairs(rng):
+def random_pairs(rng, version=1):
     for _ in range(70):
         first = (rng.randint(0, 2), rng.randint(0, 3), rng.randint(0, 4), rng.randint(0, 2))
-        made = some_sheet(rng, (*first, *drawing(rng), *drawing(rng), rng.randint(0, 3)))
+        made = some_sheet(rng, (*first, *drawing(rng), *drawing(rng), rng.randint(0, 3)), version)
         data = made.data()
         yield data, other_leftovers(rng, made).data()
         yield data, one_bit_off(rng, other_leftovers(rng, made).data())
-    full = some_sheet(rng, LIMITS)
+    full = some_sheet(rng, LIMITS, version)
+    assert len(full.data()) == longest(version)
     yield full.data(), other_leftovers(rng, full).data()
 
 
@@ -222,7 +248,7 @@ def drawing(rng):
 def limit_pairs():
     """A full section beside one of one less, of sections that are short."""
     for k in range(1, 10):
-        if LIMITS[k - 1] * SIZES[k - 1] < 1000:
+        if LIMITS[k - 1] * sizes(1)[k - 1] < 1000:
             yield at_limit(k, LIMITS[k - 1]), at_limit(k, LIMITS[k - 1] - 1)
 
 
@@ -233,7 +259,7 @@ def with_rooms(data):
 
 def room_pairs():
     """As much room as is needed, more, and less."""
-    for data in (sheet([[]] * 9), worked(), sheet(rich())):
+    for data in (sheet([[]] * 9), worked(), sheet(rich()), sheet(rich(2, (2**32, 8, 2**63)), version=2)):
         fits, short = with_rooms(data)
         for a in fits:
             for b in (*fits, *short):
@@ -241,12 +267,12 @@ def room_pairs():
 
 
 def refused_pairs(rng):
-    """Refused sheets, some of each number, with room or none; each beside one that is written, and before it."""
+    """Refused sheets, some of each version and number, with room or none; each beside one that is written, and before it."""
     by_number = {}
     for data in read_cases():
         if read(data)[0] and len(data) < 1000:
-            by_number.setdefault(read(data)[0], []).append(data)
-    assert sorted(by_number) == [1, 2, 3, 4, 5]
+            by_number.setdefault((data[:1] == b"\2", read(data)[0]), []).append(data)
+    assert sorted(by_number) == [(False, n) for n in (1, 2, 3, 4, 5)] + [(True, n) for n in (2, 3, 4, 5)]
     fine = worked()
     for some in by_number.values():
         for data in rng.sample(some, min(12, len(some))):
@@ -256,7 +282,9 @@ def refused_pairs(rng):
 
 def pairs():
     rng = random.Random(41)
-    for a, b in (*field_pairs(), *draw_pairs(), *nan_pairs(), *order_pairs(rng), *limit_pairs(), *random_pairs(rng)):
+    of_one = (*field_pairs(1), *draw_pairs(), *nan_pairs(), *order_pairs(rng), *limit_pairs(), *random_pairs(rng))
+    of_two = (*field_pairs(2), *draw_pairs(2), *first_pairs(), *order_pairs(rng, 2), *random_pairs(rng, 2))
+    for a, b in (*of_one, *of_two, *version_pairs()):
         yield (a, len(a) + rng.choice((0, 0, 7))), (b, len(b) + rng.choice((0, 0, 7)))
     yield from room_pairs()
     yield from refused_pairs(rng)
@@ -279,7 +307,8 @@ def hold(sheets):
     assert len(both) == len({m for m, _ in both}) == len({c for _, c in both})
     for s in read_ones:
         text = canonical(s)
-        assert len(text) == len(s) and meaning(text) == meaning(s) and canonical(text) == text
+        assert text[0] == s[0] and len(text) == len(s) and meaning(text) == meaning(s) and canonical(text) == text
+    assert {s[0] for s in read_ones} == set(VERSIONS)
     return len(read_ones), len(both)
 
 

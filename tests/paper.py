@@ -1,8 +1,8 @@
-"""A reading of the paper's "Building, in order" and "Submission" over lent tables, and of the request for 37's place, written apart from the
-definitions."""
+"""A reading of the paper's "Building, in order" and "Submission" over lent tables, of the request for 37's place, and of request 6's "above, the
+same checks are read over whole numbers", written apart from the definitions."""
 import struct
 
-from reading import LIMITS, NONE, SIZES, record_fits
+from reading import LIMITS, NONE, record_fits, sizes
 
 U64 = 2**64 - 1
 U32 = 2**32 - 1
@@ -20,8 +20,8 @@ def numbers(data, *widths):
     return out
 
 
-def records(table, section):
-    size = SIZES[section - 1]
+def records(version, table, section):
+    size = sizes(version)[section - 1]
     return [table[i * size : (i + 1) * size] for i in range(len(table) // size)]
 
 
@@ -45,8 +45,9 @@ def descriptor(r):
     return d
 
 
-def geometry_of(r):
-    v = numbers(r, 1, 4, 4, 8, 2, 1, 1, 2, 1, 4, 1, 4, 2, 1, 8)
+def geometry_of(version, r):
+    """In version 2 with "the primitive offset as u64"."""
+    v = numbers(r, 1, 4, {1: 4, 2: 8}[version], 8, 2, 1, 1, 2, 1, 4, 1, 4, 2, 1, 8)
     names = ("flags", "count", "first", "stride", "buffer", "format", "index_format", "index_buffer")
     g = dict(zip(names, v[:8]))
     g["indices"] = v[9] if v[8] else None
@@ -61,23 +62,23 @@ def slot(r):
     return dict(present=present, blas=id, custom=custom, mask=mask, transform=r[8:56])
 
 
-def judge_table(section, table, before):
+def judge_table(version, section, table, before):
     """4, the sum, the first bad record, a part record: as (number, record), or None."""
-    size = SIZES[section - 1]
-    rows = records(table, section)
+    size = sizes(version)[section - 1]
+    rows = records(version, table, section)
     if len(rows) > LIMITS[section - 1]:
         return 4, 0
     blas_kinds, boxes = [], [False] * len(rows)
     if section == 3:
-        blas_kinds = [r[0] for r in records(before, 2)]
+        blas_kinds = [r[0] for r in records(version, before, 2)]
     if section in (6, 8):
-        counts = [numbers(r[-2:], 2)[0] for r in records(before, section - 1)]
+        counts = [numbers(r[-2:], 2)[0] for r in records(version, before, section - 1)]
         if sum(counts) != len(rows):
             return 5, 0
         if section == 6:
-            boxes = [r[2] == 1 for r, n in zip(records(before, 5), counts) for _ in range(n)]
+            boxes = [r[2] == 1 for r, n in zip(records(version, before, 5), counts) for _ in range(n)]
     for i, r in enumerate(rows):
-        if not record_fits(section, r, boxes[i], blas_kinds):
+        if not record_fits(version, section, r, boxes[i], blas_kinds):
             return 5, i
     if len(table) % size:
         return 5, len(rows)
@@ -162,7 +163,7 @@ def round_up(size, alignment):
     return (size + alignment - 1) // alignment * alignment
 
 
-def build(alignment, tables, rooms):
+def build(version, alignment, tables, rooms):
     """(number, e0, e1, f0, f1, f2, recorded, size) and the seven outputs as lists, or None for each that is not written."""
     nothing = [None] * 7
 
@@ -173,17 +174,16 @@ def build(alignment, tables, rooms):
     if alignment == 0:
         return refused(5)
     for k in range(1, 9):
-        fault = judge_table(k, tables[k - 1], tables[k - 2] if k > 1 else b"")
+        fault = judge_table(version, k, tables[k - 1], tables[k - 2] if k > 1 else b"")
         if fault:
             return refused(fault[0], (k, fault[1]))
-    buffers = [buffer(r) for r in records(tables[0], 1)]
-    blases = [blas(r) for r in records(tables[1], 2)]
-    descriptors = [descriptor(r) for r in records(tables[2], 3)]
-    tlases = [tlas(r) for r in records(tables[3], 4)]
-    geometries = iter([geometry_of(r) for r in records(tables[5], 6)])
-    entries = [(id, kind, [next(geometries) for _ in range(n)]) for id, kind, n in (numbers(r, 2, 1, 2) for r in records(tables[4], 5))]
-    slots = iter([slot(r) for r in records(tables[7], 8)])
-    packages = [(id, [next(slots) for _ in range(n)]) for id, n in (numbers(r, 2, 2) for r in records(tables[6], 7))]
+    of = [records(version, t, k) for k, t in enumerate(tables, 1)]
+    buffers, blases = [buffer(r) for r in of[0]], [blas(r) for r in of[1]]
+    descriptors, tlases = [descriptor(r) for r in of[2]], [tlas(r) for r in of[3]]
+    geometries = iter([geometry_of(version, r) for r in of[5]])
+    entries = [(id, kind, [next(geometries) for _ in range(n)]) for id, kind, n in (numbers(r, 2, 1, 2) for r in of[4])]
+    slots = iter([slot(r) for r in of[7]])
+    packages = [(id, [next(slots) for _ in range(n)]) for id, n in (numbers(r, 2, 2) for r in of[6])]
 
     for i, (id, kind, gs) in enumerate(entries):
         for j, g in enumerate(gs):
@@ -270,7 +270,7 @@ def submit(counter, blases, tlases, counts, cells, actions, lists):
         return (number, action, f0, f1), counter, blases, tlases, counts, cells
 
     for section, table in ((2, bytes(blases)), (4, bytes(tlases))):
-        fault = judge_table(section, table, b"")
+        fault = judge_table(1, section, table, b"")  # these two are the same in either version
         if fault:
             return answer(fault[0])
     if len(counts) < nt or len(cells) < 512 * nt:

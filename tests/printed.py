@@ -1,6 +1,6 @@
 """What the sheet program prints for a sheet, from the readings in reading.py and paper.py, and what it refuses in words."""
 from paper import build, submit
-from reading import CAUSES, SIZES, read
+from reading import CAUSES, read, sizes
 
 # as many elements of each output as any sheet can need
 ROOMS = (64, 32, 64, 32768, 2304, 64, 640)
@@ -56,7 +56,7 @@ def explanation(refusal):
 
 
 # the numbers that a call refuses with: 1 reads a sheet, 2 builds, 3 submits, 4 appends an instance, 5 writes a sheet, 6 opens groups,
-# 7 appends many instances
+# 7 appends many instances, 8 converts a sheet to version 2, 9 converts one to version 1
 CALLS = {
     1: range(1, 6),
     2: (4, 5, 6, *range(10, 40)),
@@ -65,7 +65,11 @@ CALLS = {
     5: (*range(1, 6), 39),
     6: (*range(2, 6), 39, 45, 46),
     7: (5, 6, 34, 35, 39),
+    8: (*range(1, 6), 39),
+    9: (*range(1, 6), 39, 47),
 }
+# the version that a conversion comes from: "1 also for the other way's version"
+COMES_FROM = {8: 1, 9: 2}
 
 
 def words(call, number, e0, e1, f0, f1, f2):
@@ -80,7 +84,9 @@ def words(call, number, e0, e1, f0, f1, f2):
         # the Tlas's 6 is at 0 too
         which = "Tlas or instance" if (number, e1) == (6, 0) else "instance"
         return f"refused {number}: {CAUSES[number].words}, {which} {e1}\n"
-    if call == 1 or (call in (5, 6) and number != 39):
+    if call in COMES_FROM and number == 1:
+        return f"refused 1: version not {COMES_FROM[call]}, byte {e0}\n"
+    if call == 1 or (call in (5, 6, 8, 9) and number != 39):
         return explanation(("sheet", number, e0, ()))
     if call == 2:
         return explanation(("build", number, (e0, e1), (f0, f1, f2)))
@@ -94,9 +100,9 @@ def told(data):
     answer = read(data)
     if answer[0]:
         return line("sheet", *answer), ("sheet", answer[0], answer[1], ())
-    alignment, counter, places = answer[2], answer[3], answer[4:]
-    tables = [data[a : a + n * size] for a, n, size in zip(places[::2], places[1::2], SIZES)]
-    built, outputs = build(alignment, tables[:8], ROOMS)
+    version, alignment, counter, places = answer[1], answer[2], answer[3], answer[4:]
+    tables = [data[a : a + n * size] for a, n, size in zip(places[::2], places[1::2], sizes(version))]
+    built, outputs = build(version, alignment, tables[:8], ROOMS)
     text = line("build", *built[:6])
     if built[0]:
         return text, ("build", built[0], built[1:3], built[3:6])

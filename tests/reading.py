@@ -1,11 +1,12 @@
-"""A reading of the paper's part "The sheet" over its description in format/, written apart from the definitions: the first refusal with
-its byte place, or what is read; and a record of a lent table judged for itself."""
+"""A reading of the paper's part "The sheet" and of request 6's "version 2 of the sheet has the primitive offset as u64, all else the same" over
+their description in format/, written apart from the definitions: the first refusal with its byte place, or what is read; and a record of a
+lent table judged for itself."""
 import pathlib
 import sys
 
 sys.path.insert(0, str(pathlib.Path(__file__).resolve().parent.parent / "format"))
 
-from layout import HEAD, LIMITS, NONE, SECTIONS, SIZES, single  # noqa: E402, F401
+from layout import HEAD, LIMITS, NONE, VERSIONS, longest, section, sections, single, sizes  # noqa: E402, F401
 from refusals import CAUSES  # noqa: E402, F401
 from walk import WHOLE, Record, Walked, is_used, judged  # noqa: E402, F401
 
@@ -19,8 +20,8 @@ def read(data):
     return (0, w.head["version"], w.head["alignment"], w.head["counter"], *places)
 
 
-def record_fits(section, raw, boxes, blas_kinds):
+def record_fits(version, number, raw, boxes, blas_kinds):
     """Whether a whole record of a lent table has only values that its fields may have."""
-    values = WHOLE[section].unpack(raw)
-    judging = judged(SECTIONS[section - 1], Record(0, boxes), values, lambda i: blas_kinds[i] if i < len(blas_kinds) else 0, lambda _: len(blas_kinds))
+    values = WHOLE[version, number].unpack(raw)
+    judging = judged(version, section(number), Record(0, boxes), values, lambda i: blas_kinds[i] if i < len(blas_kinds) else 0, lambda _: len(blas_kinds))
     return all(allowed for *_, allowed in judging)

@@ -2,18 +2,19 @@
 // many elements of each output are written, and a hash of each output's whole array, filled with a pattern before.
 // tests/make_build_cases.py says how a case is written, and makes cases and answers.
 use ray_tracing::Built;
+use ray_tracing::Version;
 
 fn wide(n: u32) -> usize {
     n as usize
 }
 
 // Number i of a case's head.
-fn number(head: &[u32; 16], i: usize) -> usize {
-    if i < 16 { wide(head[i]) } else { 0 }
+fn number(head: &[u32; 17], i: usize) -> usize {
+    if i < 17 { wide(head[i]) } else { 0 }
 }
 
 // The bytes of table k, which follow those of the tables before it.
-fn start_of(head: &[u32; 16], k: usize) -> usize {
+fn start_of(head: &[u32; 17], k: usize) -> usize {
     let mut at: usize = 0;
     let mut i = 1;
     while i < k {
@@ -34,7 +35,7 @@ fn part(bytes: &[u8], at: usize, n: usize) -> &[u8] {
     &bytes[at..end]
 }
 
-fn table<'a>(head: &[u32; 16], bytes: &'a [u8], k: usize) -> &'a [u8] {
+fn table<'a>(head: &[u32; 17], bytes: &'a [u8], k: usize) -> &'a [u8] {
     part(bytes, start_of(head, k), number(head, k))
 }
 
@@ -62,7 +63,8 @@ fn print_built(built: Built) {
 
 // A build of the case's tables into as much of each output as the case lends.
 fn run(
-    head: &[u32; 16],
+    version: Version,
+    head: &[u32; 17],
     bytes: &[u8],
     blas_offsets: &mut [u64],
     tlas_offsets: &mut [u64],
@@ -73,6 +75,7 @@ fn run(
     lists: &mut [u16],
 ) {
     let built = build::build_acceleration_structures(
+        version,
         head[0],
         table(head, bytes, 1),
         table(head, bytes, 2),
@@ -94,7 +97,7 @@ fn run(
 }
 
 // One build over arrays filled with a pattern.
-fn answer(head: &[u32; 16], bytes: &[u8]) {
+fn answer(version: Version, head: &[u32; 17], bytes: &[u8]) {
     let mut blas_offsets = [0xa5a5_a5a5_a5a5_a5a5u64; 72];
     let mut tlas_offsets = [0xa5a5_a5a5_a5a5_a5a5u64; 40];
     let mut staging_ranges = [0xa5a5_a5a5_a5a5_a5a5u64; 80];
@@ -103,6 +106,7 @@ fn answer(head: &[u32; 16], bytes: &[u8]) {
     let mut compactable = [0xa5a5u16; 72];
     let mut lists = [0xa5a5u16; 700];
     run(
+        version,
         head,
         bytes,
         &mut blas_offsets,
@@ -125,15 +129,19 @@ fn answer(head: &[u32; 16], bytes: &[u8]) {
     cases::print_line(&hashes);
 }
 
-// One case; false at the end of the input.
+// One case; false at the end of the input, and for a version that there is not.
 fn next_case() -> bool {
-    let mut head = [0u32; 16];
-    if cases::fill_u32(&mut head, 16) < 16 {
+    let mut head = [0u32; 17];
+    if cases::fill_u32(&mut head, 17) < 17 {
         return false;
     }
     let mut bytes = io::large_buffer();
     cases::fill(&mut bytes, start_of(&head, 9));
-    answer(&head, &bytes);
+    match number(&head, 16) {
+        1 => answer(Version::One, &head, &bytes),
+        2 => answer(Version::Two, &head, &bytes),
+        _ => return false,
+    }
     true
 }
 

@@ -1,14 +1,74 @@
 // Replays recorded answers of the published Rust: reads sheets and submissions from standard input and prints what `report` and
 // `submit` answer, with a hash of each table and list that a submission leaves. `oracle/record crates/cases_replay` makes both files;
 // oracle/README.md says how a record is written and what is in the list.
+//
+// Each sheet is converted to the other version too: where it is read, what is written must print the same lines and be converted back to the
+// sheet's own bytes. Where that isn't so a line says it, which no recorded answer has.
 use libc::STDOUT_FILENO;
 use ray_tracing::Reported;
+use ray_tracing::SheetConverted;
 use submit::Numbered;
+
+// The first n, where there are so many; else none.
+fn first(bytes: &[u8], n: usize) -> &[u8] {
+    if bytes.len() < n {
+        return &bytes[0..0];
+    }
+    &bytes[0..n]
+}
+
+fn is_version_2(sheet: &[u8]) -> bool {
+    check::same(first(sheet, 1), b"\x02")
+}
+
+fn to_other_version(sheet: &[u8], out: &mut [u8]) -> SheetConverted {
+    if is_version_2(sheet) {
+        return sheet_convert::to_version_1(sheet, out);
+    }
+    sheet_convert::to_version_2(sheet, out)
+}
+
+fn expect(holds: bool) {
+    if !holds {
+        io::write_all(STDOUT_FILENO, b"not so in the other version\n");
+    }
+}
+
+fn hold_lines(converted: &[u8], lines: &[u8]) {
+    let mut text = [0u8; 6134];
+    match report::report(converted, &mut text) {
+        Reported::Written(n) => expect(check::same(first(&text, n), lines)),
+        Reported::TooShort => expect(false),
+    }
+}
+
+fn hold_bytes(converted: &[u8], sheet: &[u8]) {
+    let mut back = io::large_buffer();
+    match to_other_version(converted, &mut back) {
+        SheetConverted::Written(n) => expect(check::same(first(&back, n), sheet)),
+        _ => expect(false),
+    }
+}
+
+// A sheet with its lines: one that is not converted is refused, or of version 2 with an offset that does not fit.
+fn hold_converted(sheet: &[u8], lines: &[u8]) {
+    let mut other = io::large_buffer();
+    match to_other_version(sheet, &mut other) {
+        SheetConverted::Written(n) => {
+            hold_lines(first(&other, n), lines);
+            hold_bytes(first(&other, n), sheet);
+        }
+        SheetConverted::Refused(_, _) => expect(check::same(first(lines, 6), b"sheet ")),
+        SheetConverted::TooFar(_) => expect(is_version_2(sheet)),
+        SheetConverted::TooShort => expect(false),
+    }
+}
 
 fn answer_sheet(sheet: &[u8]) {
     let mut text = [0u8; 6134];
     if let Reported::Written(n) = report::report(sheet, &mut text) {
         cases::print_first(&text, n);
+        hold_converted(sheet, first(&text, n));
     }
 }
 

@@ -4,6 +4,7 @@ use ray_tracing::Section;
 use ray_tracing::Sheet;
 use ray_tracing::SheetError;
 use ray_tracing::SheetRead;
+use ray_tracing::Version;
 
 fn number(e: SheetError) -> u64 {
     match e {
@@ -15,13 +16,21 @@ fn number(e: SheetError) -> u64 {
     }
 }
 
+fn version_number(version: Version) -> u64 {
+    match version {
+        Version::One => 1,
+        Version::Two => 2,
+    }
+}
+
 fn print_section(s: Section) {
     let words = [s.start as u64, s.count as u64];
     cases::print_words(&words);
 }
 
 fn print_sheet(s: Sheet) {
-    let head = [0, s.version as u64, s.alignment as u64, s.counter];
+    let version = s.version;
+    let head = [0, version_number(version), s.alignment as u64, s.counter];
     let buffers = s.buffers;
     let blases = s.blases;
     let declared = s.declared;
