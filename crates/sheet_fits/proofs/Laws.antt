@@ -9,7 +9,8 @@ use lib.Dec.{leb, ltb, eqb}
 use lib.ListN.{length}
 use borrow.Author.Tests.{le-ltb}
 use Rattle.wire.specs.Wire.{leAt}
-use Rattle.ray_tracing.specs.Layout.{Seen, Field, fits, layout, total, size}
+use Rattle.ray_tracing.specs.declared.Version.{Version}
+use Rattle.ray_tracing.specs.Layout.{Seen, Field, fits, layoutIn, total, sizeIn, offsetWidth}
 use Rattle.ray_tracing.specs.Reading.{fine, judgeFields}
 use Rattle.sheet_fits.specs.Fitting.{fitFrom, recordFits, restFits, presentFits}
 
@@ -58,34 +59,47 @@ geometry true b c boxes d e = rw (of-triangles b boxes, of-triangles c boxes, �
 
 -- the code's tests of a record are its fields'
 
-module _ (c : Seen) (s : List ℕ) (at : ℕ) where
+module _ (v : Version) (c : Seen) (s : List ℕ) (at : ℕ) where
   pub blas-tests :
       (leb (leAt 1 s at) 1 && (leb (leAt 1 s (at + 1)) 7 && (leb (leAt 1 s (at + 2)) 3 && leb (leAt 1 s (at + 3)) 1)))
-      ≡ recordFits 2 c s at
+      ≡ recordFits v 2 c s at
   blas-tests = rw add-zero (four (leb (leAt 1 s at) 1) (leb (leAt 1 s (at + 1)) 7) (leb (leAt 1 s (at + 2)) 3) (leb (leAt 1 s (at + 3)) 1))
 
-  pub tlas-tests : ((eqb (leAt 1 s at) 0 || eqb (leAt 1 s at) 2) && leb (leAt 1 s (at + 1)) 1) ≡ recordFits 4 c s at
+  pub tlas-tests : ((eqb (leAt 1 s at) 0 || eqb (leAt 1 s at) 2) && leb (leAt 1 s (at + 1)) 1) ≡ recordFits v 4 c s at
   tlas-tests = rw add-zero (two (eqb (leAt 1 s at) 0 || eqb (leAt 1 s at) 2) (leb (leAt 1 s (at + 1)) 1))
 
-  pub rest-tests :
-      ((ltb 0 (leAt 2 s (at + 10)) || c .boxes) && ((leb (leAt 1 s (at + 12)) 2 || c .boxes) && (leb (leAt 1 s (at + 13)) 1 || c .boxes)))
-      ≡ restFits c s at
-  rest-tests = declared-rest (ltb 0 (leAt 2 s (at + 10))) (leb (leAt 1 s (at + 12)) 2) (leb (leAt 1 s (at + 13)) 1) (c .boxes)
+pub rest-tests :
+    (c : Seen) (s : List ℕ) (at : ℕ)
+    → ((ltb 0 (leAt 2 s (at + 10)) || c .boxes) && ((leb (leAt 1 s (at + 12)) 2 || c .boxes) && (leb (leAt 1 s (at + 13)) 1 || c .boxes)))
+    ≡ restFits c s at
+rest-tests c s at = declared-rest (ltb 0 (leAt 2 s (at + 10))) (leb (leAt 1 s (at + 12)) 2) (leb (leAt 1 s (at + 13)) 1) (c .boxes)
 
-  pub geometry-tests :
-      (not (eqb (leAt 2 s (at + 17)) 65535)
-      && ((leb (leAt 1 s (at + 20)) 2 || c .boxes)
-      && ((leb (leAt 1 s (at + 23)) 1 || c .boxes)
-      && (presentFits s (at + 28) (at + 21) (c .boxes) && presentFits s (at + 35) (at + 33) (c .boxes)))))
-      ≡ recordFits 6 c s at
-  geometry-tests =
-      geometry
-      (not (eqb (leAt 2 s (at + 17)) 65535))
-      (leb (leAt 1 s (at + 20)) 2)
-      (leb (leAt 1 s (at + 23)) 1)
-      (c .boxes)
-      (presentFits s (at + 28) (at + 21) (c .boxes))
-      (presentFits s (at + 35) (at + 33) (c .boxes))
+-- of a geometry the places are counted from where it would begin if its offset were a u32
+pub geometry-tests :
+    (v : Version) (c : Seen) (s : List ℕ) (at p : ℕ)
+    → p + 4 ≡ at + offsetWidth v
+    → (not (eqb (leAt 2 s (p + 17)) 65535)
+    && ((leb (leAt 1 s (p + 20)) 2 || c .boxes)
+    && ((leb (leAt 1 s (p + 23)) 1 || c .boxes)
+    && (presentFits s (p + 28) (p + 21) (c .boxes) && presentFits s (p + 35) (p + 33) (c .boxes)))))
+    ≡ recordFits v 6 c s at
+geometry-tests v c s at p e =
+    let w = offsetWidth v in
+    let p17 : p + 17 ≡ at + (5 + w + 8) = omega arith in
+    let p20 : p + 20 ≡ at + (5 + w + 8 + 2 + 1) = omega arith in
+    let p21 : p + 21 ≡ at + (5 + w + 8 + 2 + 1 + 1) = omega arith in
+    let p23 : p + 23 ≡ at + (5 + w + 8 + 2 + 1 + 1 + 2) = omega arith in
+    let p28 : p + 28 ≡ at + (5 + w + 8 + 2 + 1 + 1 + 2 + 1 + 4) = omega arith in
+    let p33 : p + 33 ≡ at + (5 + w + 8 + 2 + 1 + 1 + 2 + 1 + 4 + 1 + 4) = omega arith in
+    let p35 : p + 35 ≡ at + (5 + w + 8 + 2 + 1 + 1 + 2 + 1 + 4 + 1 + 4 + 2) = omega arith in
+    geometry
+    (not (eqb (leAt 2 s (p + 17)) 65535))
+    (leb (leAt 1 s (p + 20)) 2)
+    (leb (leAt 1 s (p + 23)) 1)
+    (c .boxes)
+    (presentFits s (p + 28) (p + 21) (c .boxes))
+    (presentFits s (p + 35) (p + 33) (c .boxes))
+    ∙ rw (p17, p20, p21, p23, p28, p33, p35)
 
 pub present-tests :
     (s : List ℕ) (present buffer : ℕ) (boxes : Bool)
@@ -119,9 +133,9 @@ fit-fine (f ∷ fs) c s at k h e =
 
 -- a whole record whose values fit is judged fine
 pub fits-fine :
-    (section : ℕ) (c : Seen) (s : List ℕ) (at : ℕ)
-    → at + size section ≤ length s
-    → recordFits section c s at ≡ true
-    → judgeFields c s at (layout section .fields) ≡ fine
-fits-fine section c s at h e =
-    rw add-zero at (fit-fine (layout section .fields) c s at 0 (rw zero-add h) e)
+    (v : Version) (section : ℕ) (c : Seen) (s : List ℕ) (at : ℕ)
+    → at + sizeIn v section ≤ length s
+    → recordFits v section c s at ≡ true
+    → judgeFields c s at (layoutIn v section .fields) ≡ fine
+fits-fine v section c s at h e =
+    rw add-zero at (fit-fine (layoutIn v section .fields) c s at 0 (rw zero-add h) e)

@@ -5,7 +5,8 @@ use mathlib.Core.List.{List, [], _∷_}
 use lib.Dec.{leb, eqb}
 use lib.ListN.{drop}
 use Rattle.wire.specs.Wire.{leAt}
-use Rattle.ray_tracing.specs.Layout.{Seen, Field, fits, layout}
+use Rattle.ray_tracing.specs.declared.Version.{Version}
+use Rattle.ray_tracing.specs.Layout.{Seen, Field, fits, layout, layoutIn}
 
 -- the fields that stand from k bytes on in the record at a place
 abbrev pub fitFrom : Seen → List ℕ → ℕ → ℕ → List Field → Bool
@@ -13,9 +14,9 @@ fitFrom c s at k [] = true
 fitFrom c s at k (f ∷ fs) =
     fits f c (leAt (f .width) s (at + k)) && fitFrom (f .after c (leAt (f .width) s (at + k))) s at (k + f .width) fs
 
--- a record of a section
-abbrev pub recordFits : ℕ → Seen → List ℕ → ℕ → Bool
-recordFits section c s at = fitFrom c s at 0 (layout section .fields)
+-- a record of a section of a version
+abbrev pub recordFits : Version → ℕ → Seen → List ℕ → ℕ → Bool
+recordFits v section c s at = fitFrom c s at 0 (layoutIn v section .fields)
 
 -- of a declared geometry the fields after its Blas
 abbrev pub restFits : Seen → List ℕ → ℕ → Bool

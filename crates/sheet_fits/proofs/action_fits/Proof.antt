@@ -9,17 +9,14 @@ use Rattle.sheet_fits.proofs.action_fits.Lts as lts
 use Rattle.ray_tracing.proofs.both.Reads as both-reads
 use Rattle.wire.proofs.u8_at.Reads as u8-at-reads
 
--- src/lib.rt:110:9
 u8-at-requires : tie.Need-u8-at-requires
 u8-at-requires c κs = search needs
 
--- src/lib.rt:111:5
 both-requires : tie.Need-both-requires
 both-requires c κs = search needs
 
--- src/lib.rt:106:1
 returns : tie.Need-returns
-returns c seen = rw (add-zero, c .both .ensures, c .before .u8-at .ensures) (one _)
+returns c v seen = rw (add-zero, c .both .ensures, c .before .u8-at .ensures) (one _)
 
 pub action-fits-spec : {M : Type 1} → statement M
 action-fits-spec = tie.close (tie.spec u8-at-requires both-requires returns)

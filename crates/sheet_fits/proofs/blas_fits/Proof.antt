@@ -8,49 +8,38 @@ use Rattle.sheet_fits.proofs.blas_fits.Lts as lts
 use Rattle.ray_tracing.proofs.both.Reads as both-reads
 use Rattle.wire.proofs.u8_at.Reads as u8-at-reads
 
--- src/lib.rt:34:16
 u8-at-requires : tie.Need-u8-at-requires
 u8-at-requires c κs = search needs
 
--- src/lib.rt:35:26
 add-u8-at : tie.Need-add-u8-at
 add-u8-at c = search needs
 
--- src/lib.rt:35:17
 u8-at-requires-2 : tie.Need-u8-at-requires-2
 u8-at-requires-2 c κs = search needs
 
--- src/lib.rt:36:26
 add-u8-at-2 : tie.Need-add-u8-at-2
 add-u8-at-2 c = search needs
 
--- src/lib.rt:36:17
 u8-at-requires-3 : tie.Need-u8-at-requires-3
 u8-at-requires-3 c κs = search needs
 
--- src/lib.rt:37:30
 add-u8-at-3 : tie.Need-add-u8-at-3
 add-u8-at-3 c = search needs
 
--- src/lib.rt:37:21
 u8-at-requires-4 : tie.Need-u8-at-requires-4
 u8-at-requires-4 c κs = search needs
 
--- src/lib.rt:38:28
 both-requires : tie.Need-both-requires
 both-requires c κs = search needs
 
--- src/lib.rt:38:16
 both-requires-2 : tie.Need-both-requires-2
 both-requires-2 c κs = search needs
 
--- src/lib.rt:38:5
 both-requires-3 : tie.Need-both-requires-3
 both-requires-3 c κs = search needs
 
--- src/lib.rt:30:1
 returns : tie.Need-returns
-returns c seen = rw (c .both3 .ensures, c .before .both2 .ensures, c .before .before .both .ensures, c .before .before .before .u8-at4 .ensures, c .before .before .before .before .u8-at3 .ensures, c .before .before .before .before .before .u8-at2 .ensures, c .before .before .before .before .before .before .u8-at .ensures) (blas-tests seen _ _)
+returns c v seen = rw (c .both3 .ensures, c .before .both2 .ensures, c .before .before .both .ensures, c .before .before .before .u8-at4 .ensures, c .before .before .before .before .u8-at3 .ensures, c .before .before .before .before .before .u8-at2 .ensures, c .before .before .before .before .before .before .u8-at .ensures) (blas-tests v seen _ _)
 
 pub blas-fits-spec : {M : Type 1} → statement M
 blas-fits-spec =

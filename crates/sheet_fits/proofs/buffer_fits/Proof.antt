@@ -7,17 +7,14 @@ use Rattle.sheet_fits.proofs.buffer_fits.Reads as reads
 use Rattle.sheet_fits.proofs.buffer_fits.Lts as lts
 use Rattle.wire.proofs.u8_at.Reads as u8-at-reads
 
--- src/lib.rt:27:14
 add-u8-at : tie.Need-add-u8-at
 add-u8-at c = search needs
 
--- src/lib.rt:27:5
 u8-at-requires : tie.Need-u8-at-requires
 u8-at-requires c κs = search needs
 
--- src/lib.rt:23:1
 returns : tie.Need-returns
-returns c seen = rw (c .u8-at .ensures) (one _)
+returns c v seen = rw (c .u8-at .ensures) (one _)
 
 pub buffer-fits-spec : {M : Type 1} → statement M
 buffer-fits-spec = tie.close (tie.spec add-u8-at u8-at-requires returns)

@@ -14,33 +14,26 @@ use Rattle.sheet_fits.proofs.declared_fits.Lts as lts
 use Rattle.sheet_fits.proofs.declared_rest_fits.Reads as declared-rest-fits-reads
 use Rattle.wire.proofs.u16_at.Reads as u16-at-reads
 
--- src/lib.rt:57:16
 u16-at-requires : tie.Need-u16-at-requires
 u16-at-requires c κs = search needs
 
--- src/lib.rt:57:16
 cast-blas : tie.Need-cast-blas
 cast-blas c = search needs
 
--- src/lib.rt:59:9
 returns : tie.Need-returns
-returns c boxes = rw (add-zero, ← c .before .u16-at .ensures, ← c .before .before .before .before .pre .1, le-ltb _ _ (c .if1 .taken))
+returns c v boxes = rw (add-zero, ← c .before .u16-at .ensures, ← c .before .before .before .before .pre .1, le-ltb _ _ (c .if1 .taken))
 
--- src/lib.rt:61:38
 mul-declared-rest-fits : tie.Need-mul-declared-rest-fits
 mul-declared-rest-fits c = omega (arith, record-there _ _ _ (rw (c .before .before .before .before .pre .1) at (c .if1 .left)))
 
--- src/lib.rt:61:31
 shared-slice-read-declared-rest-fits : tie.Need-shared-slice-read-declared-rest-fits
 shared-slice-read-declared-rest-fits c = omega (arith, record-there _ _ _ (rw (c .before .before .before .before .before .pre .1) at (c .before .if1 .left)))
 
--- src/lib.rt:61:5
 declared-rest-fits-requires : tie.Need-declared-rest-fits-requires
 declared-rest-fits-requires c κs = search needs
 
--- src/lib.rt:53:1
 returns-2 : tie.Need-returns-2
-returns-2 c boxes =
+returns-2 c v boxes =
     rw (add-zero, ← c .before .before .before .u16-at .ensures, ← c .before .before .before .before .before .before .pre .1, lt-ltb _ _ (c .before .before .if1 .left))
     (c .declared-rest-fits .ensures (kindKnown (begin (c .before .before .before .before .before .before .args .each) (c .before .before .before .before .before .before .args .before .now) boxes) (c .before .before .before .u16-at .result)) refl)
 

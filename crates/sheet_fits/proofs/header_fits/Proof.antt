@@ -8,13 +8,11 @@ use Rattle.sheet_fits.proofs.header_fits.Reads as reads
 use Rattle.sheet_fits.proofs.header_fits.Lts as lts
 use Rattle.wire.proofs.u32_at.Reads as u32-at-reads
 
--- src/lib.rt:20:9
 u32-at-requires : tie.Need-u32-at-requires
 u32-at-requires c κs = search needs
 
--- src/lib.rt:16:1
 returns : tie.Need-returns
-returns c seen = rw (add-zero, c .u32-at .ensures) (one _)
+returns c v seen = rw (add-zero, c .u32-at .ensures) (one _)
 
 pub header-fits-spec : {M : Type 1} → statement M
 header-fits-spec = tie.close (tie.spec u32-at-requires returns)

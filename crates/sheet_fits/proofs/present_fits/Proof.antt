@@ -10,31 +10,24 @@ use Rattle.ray_tracing.proofs.either.Reads as either-reads
 use Rattle.wire.proofs.u16_at.Reads as u16-at-reads
 use Rattle.wire.proofs.u8_at.Reads as u8-at-reads
 
--- src/lib.rt:84:21
 add-u8-at : tie.Need-add-u8-at
 add-u8-at c = search needs
 
--- src/lib.rt:84:12
 u8-at-requires : tie.Need-u8-at-requires
 u8-at-requires c κs = search needs
 
--- src/lib.rt:84:65
 add-u16-at : tie.Need-add-u16-at
 add-u16-at c = search needs
 
--- src/lib.rt:84:55
 u16-at-requires : tie.Need-u16-at-requires
 u16-at-requires c κs = search needs
 
--- src/lib.rt:84:41
 either-requires : tie.Need-either-requires
 either-requires c κs = search needs
 
--- src/lib.rt:84:5
 either-requires-2 : tie.Need-either-requires-2
 either-requires-2 c κs = search needs
 
--- src/lib.rt:80:1
 returns : tie.Need-returns
 returns c = rw (c .either2 .ensures, c .before .either .ensures, c .before .before .u16-at .ensures, c .before .before .before .u8-at .ensures) (present-tests _ _ (c .before .before .before .before .before .args .at + c .before .before .before .before .before .args .buffer) (c .before .before .before .before .before .args .boxes))
 

@@ -8,13 +8,11 @@ use Rattle.sheet_fits.proofs.slot_fits.Reads as reads
 use Rattle.sheet_fits.proofs.slot_fits.Lts as lts
 use Rattle.wire.proofs.u8_at.Reads as u8-at-reads
 
--- src/lib.rt:103:5
 u8-at-requires : tie.Need-u8-at-requires
 u8-at-requires c κs = search needs
 
--- src/lib.rt:99:1
 returns : tie.Need-returns
-returns c seen = rw (add-zero, c .u8-at .ensures) (one _)
+returns c v seen = rw (add-zero, c .u8-at .ensures) (one _)
 
 pub slot-fits-spec : {M : Type 1} → statement M
 slot-fits-spec = tie.close (tie.spec u8-at-requires returns)

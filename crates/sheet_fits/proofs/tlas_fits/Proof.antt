@@ -9,29 +9,23 @@ use Rattle.ray_tracing.proofs.both.Reads as both-reads
 use Rattle.ray_tracing.proofs.either.Reads as either-reads
 use Rattle.wire.proofs.u8_at.Reads as u8-at-reads
 
--- src/lib.rt:68:9
 u8-at-requires : tie.Need-u8-at-requires
 u8-at-requires c κs = search needs
 
--- src/lib.rt:69:10
 either-requires : tie.Need-either-requires
 either-requires c κs = search needs
 
--- src/lib.rt:69:51
 add-u8-at : tie.Need-add-u8-at
 add-u8-at c = search needs
 
--- src/lib.rt:69:42
 u8-at-requires-2 : tie.Need-u8-at-requires-2
 u8-at-requires-2 c κs = search needs
 
--- src/lib.rt:69:5
 both-requires : tie.Need-both-requires
 both-requires c κs = search needs
 
--- src/lib.rt:64:1
 returns : tie.Need-returns
-returns c seen = rw (c .both .ensures, c .before .u8-at2 .ensures, c .before .before .either .ensures, c .before .before .before .u8-at .ensures) (tlas-tests seen _ _)
+returns c v seen = rw (c .both .ensures, c .before .u8-at2 .ensures, c .before .before .either .ensures, c .before .before .before .u8-at .ensures) (tlas-tests v seen _ _)
 
 pub tlas-fits-spec : {M : Type 1} → statement M
 tlas-fits-spec =
