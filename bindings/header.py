@@ -13,7 +13,10 @@ from refusals import CAUSES  # noqa: E402
 
 CALLS = {
     "sheet": "read_sheet",
+    "to_2": "to_version_2",
+    "to_1": "to_version_1",
     "build": "build",
+    "wide": "build_wide",
     "submit": "submit",
     "append": "append_instance",
     "many": "append_instances",
@@ -53,7 +56,7 @@ def main():
         faults.append("the header's numbers are not those of the table of causes")
 
     spoken = set()
-    for file in ("building", "submission", "sheet", "groups"):
+    for file in ("building", "submission", "sheet", "groups", "convert"):
         for number, words in re.findall(r"^\s*/// (\d+)(?: in a \w+)?: (.*)$", text(f"bindings/rust/src/{file}.rs"), re.M):
             spoken.add(int(number))
             if words.replace("`", "") != CAUSES[int(number)].words:

@@ -259,8 +259,9 @@ zakvind_sheet zakvind_read_sheet(const uint8_t *sheet, size_t sheet_len);
 
 /* Writes a sheet anew in its own version, as many bytes as it has: unused fields zero, declared geometries by Blas number and those of
  * one Blas in their order. What is written is read, and means the same; two sheets come to equal bytes exactly when they mean the
- * same: as read, version included, unused fields aside, floats by their bits, each Blas's declared geometries in order. Refuses by 1 to
- * 5 and 39, the reader's numbers first and at its place, and then writes nothing; room for the sheet's own length is always enough. */
+ * same: as read, version included, unused fields aside, floats by their bits, each Blas's declared geometries in order.
+ * Refuses by 1 to 5 and 39, the reader's numbers first and at its place, and then writes nothing; room for the sheet's own length is
+ * always enough. */
 zakvind_written zakvind_write_sheet(const uint8_t *sheet, size_t sheet_len, uint8_t *out, size_t out_len);
 
 /* Writes a sheet of version 1 as one of version 2: the version byte is 2 and each geometry's `first` has four bytes more; every other
@@ -270,10 +271,10 @@ zakvind_written zakvind_write_sheet(const uint8_t *sheet, size_t sheet_len, uint
  * ZAKVIND_ROOM_VERSION_2(sheet_len) is always enough. */
 zakvind_written zakvind_to_version_2(const uint8_t *sheet, size_t sheet_len, uint8_t *out, size_t out_len);
 
-/* Writes a sheet of version 2 as one of version 1, the other way round; zakvind_to_version_2 gives the same bytes back. Refuses by 1 to
- * 5, 39 and 47: by 1 at place 0 where the version byte is not 2, then by the reader's numbers at its place, then by 47 at the place, in
- * the sheet that is read, of the first geometry's `first` that is above 2^32 - 1, then by 39; and then writes nothing. Room for the
- * sheet's own length is always enough. */
+/* Writes a sheet of version 2 as one of version 1, the other way round; zakvind_to_version_2 gives the same bytes back. Refuses by 1 to 5,
+ * 39 and 47: by 1 at place 0 where the version byte is not 2, then by the reader's numbers at its place, then by 47 at the place, in the
+ * sheet that is read, of the first `first` of a geometry that is above 2^32 - 1, then by 39; and then writes nothing. Room for the sheet's
+ * own length is always enough. */
 zakvind_written zakvind_to_version_1(const uint8_t *sheet, size_t sheet_len, uint8_t *out, size_t out_len);
 
 /* Opens groups of slots: a u16 group count, at most ZAKVIND_MOST_GROUPS, then for each group a u16 item count and its items. An item

@@ -1,7 +1,7 @@
-/* The header against the library: records packed and unpacked, the room of a build, scratch that reaches 2^64 - 1, empty tables, a sheet
- * written anew, opened groups, words, a refused append, many instances in one call, how much stack each call uses, with the largest tables,
- * sheet and groups, and how often a build divides. Every answer is held against what it must be. OTHER_LIBRARY: one that stands in for ours
- * may use more stack and divide. */
+/* The header against the library: records packed and unpacked, the room of a build, scratch that reaches 2^64 - 1, builds of either width,
+ * empty tables, a sheet written anew, one of each version converted to the other, opened groups, words, a refused append, many instances in
+ * one call, how much stack each call uses, with the largest tables, sheet and groups, and how often a build divides. Every answer is held
+ * against what it must be. OTHER_LIBRARY: one that stands in for ours may use more stack and divide. */
 #define _GNU_SOURCE
 #include <zakvind.h>
 
@@ -57,11 +57,14 @@ static void records(void)
     SAME(tlas, ZAKVIND_TLAS_BYTES)
     SAME(entry, ZAKVIND_ENTRY_BYTES)
     SAME(geometry, ZAKVIND_GEOMETRY_BYTES)
+    SAME(wide_geometry, ZAKVIND_WIDE_GEOMETRY_BYTES)
     SAME(package, ZAKVIND_PACKAGE_BYTES)
     SAME(slot, ZAKVIND_SLOT_BYTES)
     SAME(action, ZAKVIND_ACTION_BYTES)
     must(zakvind_geometry_default().index_buffer == ZAKVIND_NO_BUFFER, "no index buffer by default");
     must(zakvind_geometry_default().transform_buffer == ZAKVIND_NO_BUFFER, "no transform buffer by default");
+    must(zakvind_wide_geometry_default().index_buffer == ZAKVIND_NO_BUFFER, "no index buffer of a wide one by default");
+    must(zakvind_wide_geometry_default().transform_buffer == ZAKVIND_NO_BUFFER, "no transform buffer of a wide one by default");
     must(zakvind_declared_default().stride_alignment == 1, "a stride alignment that may be, by default");
 }
 
@@ -71,7 +74,9 @@ static uint8_t buffers[ZAKVIND_MOST_BUFFERS * ZAKVIND_BUFFER_BYTES], blases[ZAKV
 static uint8_t declared[ZAKVIND_MOST_DECLARED * ZAKVIND_DECLARED_BYTES], tlases[ZAKVIND_MOST_TLASES * ZAKVIND_TLAS_BYTES];
 static uint8_t entries[ZAKVIND_MOST_ENTRIES * ZAKVIND_ENTRY_BYTES], geometries[ZAKVIND_MOST_GEOMETRIES * ZAKVIND_GEOMETRY_BYTES];
 static uint8_t packages[ZAKVIND_MOST_PACKAGES * ZAKVIND_PACKAGE_BYTES], slots[ZAKVIND_MOST_SLOTS * ZAKVIND_SLOT_BYTES];
-static uint8_t actions[ZAKVIND_MOST_ACTIONS * ZAKVIND_ACTION_BYTES], sheet[ZAKVIND_LONGEST_SHEET];
+static uint8_t actions[ZAKVIND_MOST_ACTIONS * ZAKVIND_ACTION_BYTES], sheet[ZAKVIND_LONGEST_VERSION_1];
+/* the same as version 2 has them */
+static uint8_t wide_geometries[ZAKVIND_MOST_GEOMETRIES * ZAKVIND_WIDE_GEOMETRY_BYTES], wide_sheet[ZAKVIND_LONGEST_SHEET];
 
 static void fill(void)
 {
@@ -117,7 +122,13 @@ static void fill(void)
         r.index_count_present = r.first_index_present = r.transform_buffer_offset_present = 1;
         r.index_count = 36;
         r.transform_buffer = (uint16_t)i;
+        r.first = (uint32_t)(8 * i);
         zakvind_pack_geometry(geometries + i * ZAKVIND_GEOMETRY_BYTES, &r);
+        const zakvind_wide_geometry w = {
+            r.flags, r.count, r.first, r.stride, r.buffer, r.vertex_format, r.index_format, r.index_buffer, r.index_count_present,
+            r.index_count, r.first_index_present, r.first_index, r.transform_buffer, r.transform_buffer_offset_present,
+            r.transform_buffer_offset};
+        zakvind_pack_wide_geometry(wide_geometries + i * ZAKVIND_WIDE_GEOMETRY_BYTES, &w);
     }
     for (size_t i = 0; i < ZAKVIND_MOST_PACKAGES; i++) {
         const zakvind_package r = {(uint16_t)i, 16};
@@ -142,10 +153,10 @@ static void put_section(uint8_t **at, const uint8_t *table, size_t bytes, size_t
     *at += 2 + bytes;
 }
 
-static void make_sheet(void)
+static size_t make_sheet(uint8_t *sheet, uint8_t version)
 {
     uint8_t *at = sheet;
-    zakvind_put(at, 1, 1);
+    zakvind_put(at, 1, version);
     zakvind_put(at + 1, 4, 256);
     zakvind_put(at + 5, 8, 5);
     at += ZAKVIND_HEAD_BYTES;
@@ -154,11 +165,19 @@ static void make_sheet(void)
     put_section(&at, declared, sizeof declared, ZAKVIND_DECLARED_BYTES);
     put_section(&at, tlases, sizeof tlases, ZAKVIND_TLAS_BYTES);
     put_section(&at, entries, sizeof entries, ZAKVIND_ENTRY_BYTES);
-    put_section(&at, geometries, sizeof geometries, ZAKVIND_GEOMETRY_BYTES);
+    if (version == 2)
+        put_section(&at, wide_geometries, sizeof wide_geometries, ZAKVIND_WIDE_GEOMETRY_BYTES);
+    else
+        put_section(&at, geometries, sizeof geometries, ZAKVIND_GEOMETRY_BYTES);
     put_section(&at, packages, sizeof packages, ZAKVIND_PACKAGE_BYTES);
     put_section(&at, slots, sizeof slots, ZAKVIND_SLOT_BYTES);
     put_section(&at, actions, sizeof actions, ZAKVIND_ACTION_BYTES);
-    must(at == sheet + sizeof sheet, "the longest sheet is as long as is said");
+    return (size_t)(at - sheet);
+}
+
+static void make_sheets(void)
+{
+    must(make_sheet(sheet, 1) == sizeof sheet && make_sheet(wide_sheet, 2) == sizeof wide_sheet, "the longest sheets are as long as is said");
 }
 
 /* ---- a build with so much room */
@@ -174,18 +193,29 @@ static zakvind_room room;
 static zakvind_built built;
 static uint32_t alignment = 256;
 
+/* a build of either width, and the geometries that it takes */
+static const struct width {
+    __typeof__(zakvind_build) *build;
+    __typeof__(zakvind_room_for) *room;
+    const uint8_t *geometries;
+    size_t bytes;
+} widths[] = {
+    {zakvind_build, zakvind_room_for, geometries, sizeof geometries},
+    {zakvind_build_wide, zakvind_room_for_wide, wide_geometries, sizeof wide_geometries},
+}, *width = widths;
+
 static void build(void)
 {
-    built = zakvind_build(alignment, buffers, sizeof buffers, blases, sizeof blases, declared, sizeof declared, tlases, sizeof tlases,
-                          entries, sizeof entries, geometries, sizeof geometries, packages, sizeof packages, slots, sizeof slots,
-                          blas_offsets, room.blas_offsets, tlas_offsets, room.tlas_offsets, staging_ranges, room.staging_ranges,
-                          instances, room.instances, init_ranges, room.init_ranges, compactable, room.compactable, lists, room.lists);
+    built = width->build(alignment, buffers, sizeof buffers, blases, sizeof blases, declared, sizeof declared, tlases, sizeof tlases,
+                         entries, sizeof entries, width->geometries, width->bytes, packages, sizeof packages, slots, sizeof slots,
+                         blas_offsets, room.blas_offsets, tlas_offsets, room.tlas_offsets, staging_ranges, room.staging_ranges,
+                         instances, room.instances, init_ranges, room.init_ranges, compactable, room.compactable, lists, room.lists);
 }
 
 static void room_fits(void)
 {
-    room = zakvind_room_for(blases, sizeof blases, entries, sizeof entries, geometries, sizeof geometries, packages, sizeof packages,
-                            slots, sizeof slots);
+    room = width->room(blases, sizeof blases, entries, sizeof entries, width->geometries, width->bytes, packages, sizeof packages,
+                       slots, sizeof slots);
     build();
     must(built.number == 0 && built.recorded == 1, "a build with the room that it needs");
     must(built.blas_offsets == room.blas_offsets && built.tlas_offsets == room.tlas_offsets, "offsets as many as there is room");
@@ -235,10 +265,10 @@ static void build_sized(size_t n, size_t m)
     const size_t bytes[] = {sizeof blas_offsets, sizeof tlas_offsets, sizeof staging_ranges, sizeof compactable, sizeof lists};
     for (size_t i = 0; i < sizeof bytes / sizeof *bytes; i++)
         memset(outputs[i], 0x5a, bytes[i]);
-    built = zakvind_build(1, buffers, 0, sized_blases, sizeof sized_blases, declared, 0, sized_tlases, sizeof sized_tlases,
-                          sized_entries, n * ZAKVIND_ENTRY_BYTES, geometries, 0, sized_packages, m * ZAKVIND_PACKAGE_BYTES, slots, 0,
-                          blas_offsets, room.blas_offsets, tlas_offsets, room.tlas_offsets, staging_ranges, room.staging_ranges,
-                          instances, 0, init_ranges, 0, compactable, ZAKVIND_MOST_ENTRIES, lists, room.lists);
+    built = width->build(1, buffers, 0, sized_blases, sizeof sized_blases, declared, 0, sized_tlases, sizeof sized_tlases,
+                         sized_entries, n * ZAKVIND_ENTRY_BYTES, geometries, 0, sized_packages, m * ZAKVIND_PACKAGE_BYTES, slots, 0,
+                         blas_offsets, room.blas_offsets, tlas_offsets, room.tlas_offsets, staging_ranges, room.staging_ranges,
+                         instances, 0, init_ranges, 0, compactable, ZAKVIND_MOST_ENTRIES, lists, room.lists);
     for (size_t i = 0; built.number && i < sizeof bytes / sizeof *bytes; i++)
         must(all(outputs[i], bytes[i], 0x5a), "a refused build writes nothing");
 }
@@ -319,6 +349,136 @@ static void scratch(void)
     must(accepted(half), "2^63 of an entry and of a package");
 }
 
+/* ---- builds of either width */
+
+enum { KEPT = sizeof blas_offsets + sizeof tlas_offsets + sizeof staging_ranges + sizeof instances + sizeof init_ranges +
+              sizeof compactable + sizeof lists };
+static uint8_t kept[2][KEPT];
+
+/* every output and the answer, painted before */
+static zakvind_built build_kept(const struct width *by, uint8_t *to)
+{
+    void *outputs[] = {blas_offsets, tlas_offsets, staging_ranges, instances, init_ranges, compactable, lists};
+    const size_t bytes[] = {sizeof blas_offsets, sizeof tlas_offsets, sizeof staging_ranges, sizeof instances,
+                            sizeof init_ranges, sizeof compactable, sizeof lists};
+    for (size_t i = 0; i < sizeof bytes / sizeof *bytes; i++)
+        memset(outputs[i], 0x5a, bytes[i]);
+    width = by;
+    build();
+    for (size_t i = 0; i < sizeof bytes / sizeof *bytes; to += bytes[i++])
+        memcpy(to, outputs[i], bytes[i]);
+    return built;
+}
+
+static uint64_t same_as_narrow(const char *what)
+{
+    const zakvind_built a = build_kept(widths, kept[0]), b = build_kept(widths + 1, kept[1]);
+    must(memcmp(&a, &b, sizeof a) == 0 && memcmp(kept[0], kept[1], KEPT) == 0, what);
+    return a.number;
+}
+
+/* a bit of a geometry flipped in both, where it is at another place from the stride on */
+static void flip(size_t i, size_t byte, uint8_t bit)
+{
+    geometries[i * ZAKVIND_GEOMETRY_BYTES + byte] ^= bit;
+    wide_geometries[i * ZAKVIND_WIDE_GEOMETRY_BYTES + byte + (byte < 9 ? 0 : 4)] ^= bit;
+}
+
+static void as_narrow(void)
+{
+    size_t seen[48] = {0}, numbers = 0;
+    must(same_as_narrow("a wide build is answered as the narrow one") == 0, "it is accepted");
+    for (size_t i = 0; i < ZAKVIND_MOST_GEOMETRIES; i += 51)
+        for (size_t byte = 0; byte < ZAKVIND_GEOMETRY_BYTES; byte++)
+            for (int k = 0; k < 8; k++) {
+                flip(i, byte, (uint8_t)(1 << k));
+                const uint64_t number = same_as_narrow("with another bit in a geometry too");
+                must(number < 48, "by a number that there is");
+                numbers += seen[number]++ == 0;
+                flip(i, byte, (uint8_t)(1 << k));
+            }
+    must(numbers > 15, "of many numbers");
+    width = widths;
+}
+
+static uint8_t far_buffer[ZAKVIND_BUFFER_BYTES], far_blas[ZAKVIND_BLAS_BYTES], far_declared[ZAKVIND_DECLARED_BYTES];
+static uint8_t far_entry[ZAKVIND_ENTRY_BYTES], far_geometry[ZAKVIND_WIDE_GEOMETRY_BYTES];
+
+/* One geometry of a kind over a buffer of such a size. */
+static void build_far(uint8_t kind, uint64_t size, uint64_t first, uint32_t count, uint64_t stride)
+{
+    const zakvind_buffer buffer = {size, ZAKVIND_MARKS_BLAS_INPUT};
+    const zakvind_entry entry = {0, kind, 1};
+    zakvind_blas blas = zakvind_blas_default();
+    zakvind_declared declares = zakvind_declared_default();
+    zakvind_wide_geometry geometry = zakvind_wide_geometry_default();
+    blas.kind = kind;
+    blas.build_scratch_size = 1;
+    declares.count = geometry.count = count;
+    geometry.first = first;
+    geometry.stride = stride;
+    zakvind_pack_buffer(far_buffer, &buffer);
+    zakvind_pack_blas(far_blas, &blas);
+    zakvind_pack_declared(far_declared, &declares);
+    zakvind_pack_entry(far_entry, &entry);
+    zakvind_pack_wide_geometry(far_geometry, &geometry);
+    built = zakvind_build_wide(1, far_buffer, sizeof far_buffer, far_blas, sizeof far_blas, far_declared, sizeof far_declared, tlases, 0,
+                               far_entry, sizeof far_entry, far_geometry, sizeof far_geometry, packages, 0, slots, 0, blas_offsets, 1,
+                               tlas_offsets, 0, staging_ranges, 0, instances, 0, init_ranges, 3, compactable, 0, lists, 1);
+}
+
+static int ranges_to(uint64_t start, uint64_t end)
+{
+    return built.number == 0 && built.recorded == 1 && built.init_ranges == 3 && init_ranges[0] == 0 && init_ranges[1] == start &&
+           init_ranges[2] == end;
+}
+
+static int overruns(uint64_t offset, uint64_t region, uint64_t size)
+{
+    return built.number == ZAKVIND_INSUFFICIENT_BUFFER_SIZE && built.e0 == 0 && built.e1 == 0 && built.f0 == offset &&
+           built.f1 == region && built.f2 == size;
+}
+
+static void far_builds(void)
+{
+    const uint64_t top = UINT64_MAX, far = (uint64_t)1 << 32;
+    const uint64_t firsts[] = {0, far - 8, far, far + 8, (uint64_t)1 << 40, top - 55};
+    for (size_t i = 0; i < sizeof firsts / sizeof *firsts; i++) {
+        const uint64_t first = firsts[i], end = first + 48;
+        build_far(ZAKVIND_KIND_BOXES, end, first, 2, 24);
+        must(ranges_to(first, end), "boxes to the buffer's end");
+        build_far(ZAKVIND_KIND_BOXES, end - 1, first, 2, 24);
+        must(overruns(first, 48, end - 1), "boxes a byte past the buffer's end");
+        build_far(ZAKVIND_KIND_BOXES, top, first + 4, 2, 24);
+        must(built.number == ZAKVIND_UNALIGNED_AABB_PRIMITIVE_OFFSET, "an offset not in eights");
+    }
+    for (size_t i = 0; i < sizeof firsts / sizeof *firsts - 1; i++) {
+        const uint64_t first = firsts[i], start = 12 * first, end = start + 36;
+        build_far(ZAKVIND_KIND_TRIANGLES, end, first, 3, 12);
+        must(ranges_to(start, end), "vertices to the buffer's end");
+        build_far(ZAKVIND_KIND_TRIANGLES, end - 1, first, 3, 12);
+        must(overruns(start, 36, end - 1), "vertices a byte past the buffer's end");
+    }
+    build_far(ZAKVIND_KIND_BOXES, top, top - 7, 2, 24);
+    must(overruns(top - 7, 48, top), "boxes past 2^64 - 1");
+    build_far(ZAKVIND_KIND_BOXES, top, top - 7, 0, 24);
+    must(ranges_to(top - 7, top - 7), "no boxes, just before 2^64 - 1");
+    build_far(ZAKVIND_KIND_BOXES, top, top, 2, 24);
+    must(built.number == ZAKVIND_UNALIGNED_AABB_PRIMITIVE_OFFSET, "an offset of 2^64 - 1");
+    build_far(ZAKVIND_KIND_BOXES, top, far, 1 << 27, 32);
+    must(built.number == ZAKVIND_OFFSET_LIMITED_TO_4GB && built.f0 == far && built.f1 == 1 << 27 && built.f2 == 32, "boxes of 2^32 bytes");
+    build_far(ZAKVIND_KIND_TRIANGLES, top, top - 3, 3, 1);
+    must(ranges_to(top - 3, top), "vertices to 2^64 - 1");
+    build_far(ZAKVIND_KIND_TRIANGLES, top, top - 2, 3, 1);
+    must(overruns(top - 2, 3, top), "a sum past 2^64 - 1");
+    build_far(ZAKVIND_KIND_TRIANGLES, top, top, 3, 12);
+    must(overruns(top, 36, top), "a product past 2^64 - 1");
+    build_far(ZAKVIND_KIND_TRIANGLES, top, far, 3, top);
+    must(overruns(top, top, top), "two products past 2^64 - 1");
+    build_far(ZAKVIND_KIND_TRIANGLES, 0, top, UINT32_MAX, 0);
+    must(ranges_to(0, 0), "no stride from 2^64 - 1 on");
+}
+
 /* ---- nothing at all, lent by the idiom */
 
 static void nothing(void)
@@ -326,11 +486,13 @@ static void nothing(void)
     uint8_t *null = NULL, *given = sheet;
     uint8_t *none = ZAKVIND_LENT(uint8_t, null);
     must(none != NULL && ZAKVIND_LENT(uint8_t, given) == sheet, "a pointer to nothing");
-    const zakvind_built b =
-        zakvind_build(1, none, 0, none, 0, none, 0, none, 0, none, 0, none, 0, none, 0, none, 0, ZAKVIND_NONE(uint64_t), 0,
-                      ZAKVIND_NONE(uint64_t), 0, ZAKVIND_NONE(uint64_t), 0, none, 0, ZAKVIND_NONE(uint64_t), 0, ZAKVIND_NONE(uint16_t), 0,
-                      ZAKVIND_NONE(uint16_t), 0);
-    must(b.number == 0 && b.recorded == 0, "a build of nothing");
+    for (size_t i = 0; i < sizeof widths / sizeof *widths; i++) {
+        const zakvind_built b =
+            widths[i].build(1, none, 0, none, 0, none, 0, none, 0, none, 0, none, 0, none, 0, none, 0, ZAKVIND_NONE(uint64_t), 0,
+                            ZAKVIND_NONE(uint64_t), 0, ZAKVIND_NONE(uint64_t), 0, none, 0, ZAKVIND_NONE(uint64_t), 0,
+                            ZAKVIND_NONE(uint16_t), 0, ZAKVIND_NONE(uint16_t), 0);
+        must(b.number == 0 && b.recorded == 0, "a build of nothing");
+    }
     zakvind_command_indices indices = {3, 5};
     const zakvind_submitted s = zakvind_submit(&indices, none, 0, none, 0, ZAKVIND_NONE(uint16_t), 0, ZAKVIND_NONE(uint16_t), 0,
                                                ZAKVIND_NONE(uint32_t), 0, ZAKVIND_NONE(uint16_t), 0);
@@ -338,6 +500,10 @@ static void nothing(void)
     must(zakvind_read_sheet(none, 0).number == ZAKVIND_TRUNCATED, "a sheet of nothing");
     must(zakvind_write_sheet(none, 0, none, 0).number == ZAKVIND_TRUNCATED, "a sheet of nothing written");
     must(zakvind_write_sheet(sheet, sizeof sheet, none, 0).number == ZAKVIND_OUTPUT_TOO_SHORT, "a sheet without room");
+    must(zakvind_to_version_2(none, 0, none, 0).number == ZAKVIND_TRUNCATED, "a sheet of nothing to version 2");
+    must(zakvind_to_version_1(none, 0, none, 0).number == ZAKVIND_TRUNCATED, "a sheet of nothing to version 1");
+    must(zakvind_to_version_2(sheet, sizeof sheet, none, 0).number == ZAKVIND_OUTPUT_TOO_SHORT, "version 2 without room");
+    must(zakvind_to_version_1(wide_sheet, sizeof wide_sheet, none, 0).number == ZAKVIND_OUTPUT_TOO_SHORT, "version 1 without room");
     must(zakvind_open_groups(none, 0, none, 0).number == ZAKVIND_TRUNCATED, "groups of nothing opened");
     zakvind_appended a = zakvind_append_instances(none, 0, none, 0, 0, none, 0, none, 0, 0);
     must(a.number == ZAKVIND_INVALID_RESOURCE && a.used == 0, "no instances of no Tlas");
@@ -350,9 +516,9 @@ static void nothing(void)
 
 static uint8_t anew[ZAKVIND_LONGEST_SHEET + 8], again[ZAKVIND_LONGEST_SHEET];
 
-static void written(void)
+/* one of so many bytes, the last of which are an action */
+static void written(uint8_t *sheet, size_t n)
 {
-    const size_t n = sizeof sheet;
     uint8_t *last = sheet + n - 3;
     memset(anew, 0x5a, sizeof anew);
     zakvind_written w = zakvind_write_sheet(sheet, n, anew, n - 1);
@@ -369,7 +535,8 @@ static void written(void)
     must(all(anew + n, sizeof anew - n, 0x5a), "what is past the sheet is kept");
     must(memcmp(anew, sheet, n) != 0, "this one has another order and leftovers");
     const zakvind_sheet before = zakvind_read_sheet(sheet, n), after = zakvind_read_sheet(anew, n);
-    must(memcmp(&before, &after, sizeof before) == 0, "what is written is read, and has the same sections");
+    must(memcmp(&before, &after, sizeof before) == 0, "what is written is read, and has the same version and sections");
+    must(after.version == sheet[0], "its version is the one that was read");
     const uint8_t *d = anew + after.sections[2].start;
     for (size_t i = 1; i < ZAKVIND_MOST_DECLARED; i++, d += ZAKVIND_DECLARED_BYTES)
         must(zakvind_unpack_declared(d).blas <= zakvind_unpack_declared(d + ZAKVIND_DECLARED_BYTES).blas, "declared geometries by Blas");
@@ -388,6 +555,121 @@ static void written(void)
     w = zakvind_write_sheet(sheet, n, again, n);
     must(w.number == 0 && memcmp(again, anew, n) != 0, "another bit that is used is written otherwise");
     sheet[before.sections[7].start + ZAKVIND_SLOT_BYTES + 7] ^= 1;
+}
+
+/* ---- a sheet of each version converted to the other */
+
+enum { AROUND = 8 };
+static uint8_t converted[AROUND + ZAKVIND_LONGEST_SHEET + 2000];
+
+/* Into so much room, by one way or the other: what is past the sheet is kept, and all where it is refused. */
+static zakvind_written converts(int to, const uint8_t *from, size_t n, size_t room)
+{
+    memset(converted, 0x5a, sizeof converted);
+    const zakvind_written w = (to == 2 ? zakvind_to_version_2 : zakvind_to_version_1)(from, n, converted + AROUND, room);
+    must(!w.number || w.written == 0, "a refusal writes nothing");
+    must(w.written <= room && all(converted, AROUND, 0x5a), "what is before the sheet is kept");
+    must(all(converted + AROUND + w.written, sizeof converted - AROUND - w.written, 0x5a), "what is past the sheet is kept");
+    return w;
+}
+
+static int refused_by(zakvind_written w, uint64_t number, uint64_t place) { return w.number == number && w.place == place; }
+
+static int becomes(int to, const uint8_t *from, size_t n, size_t room, const uint8_t *expected, size_t m)
+{
+    const zakvind_written w = converts(to, from, n, room);
+    return refused_by(w, 0, 0) && w.written == m && memcmp(converted + AROUND, expected, m) == 0;
+}
+
+/* A sheet as the reader refuses it is refused the same by the converter of its version, and by 1 by the other, with no room too. */
+static void refused_as_read(const uint8_t *from, size_t n)
+{
+    const zakvind_sheet r = zakvind_read_sheet(from, n);
+    const int other = from[0] == 1 ? 1 : 2, to = 3 - other;
+    const size_t rooms[] = {0, n, ZAKVIND_ROOM_VERSION_2(n)};
+    must(r.number != 0, "the reader refuses it");
+    for (size_t i = 0; i < sizeof rooms / sizeof *rooms; i++) {
+        must(refused_by(converts(to, from, n, rooms[i]), r.number, r.place), "the reader's refusal, at its place");
+        must(refused_by(converts(other, from, n, rooms[i]), ZAKVIND_UNKNOWN_VERSION, 0), "of the other way's version by 1");
+    }
+}
+
+static uint8_t *first_of(size_t i)
+{
+    static size_t start;
+    if (!start)
+        start = (size_t)zakvind_read_sheet(wide_sheet, sizeof wide_sheet).sections[5].start;
+    return wide_sheet + start + i * ZAKVIND_WIDE_GEOMETRY_BYTES + 5;
+}
+
+static void both_ways(void)
+{
+    const size_t n = sizeof sheet, m = sizeof wide_sheet;
+    const uint64_t far = (uint64_t)1 << 32;
+    must(m == ZAKVIND_ROOM_VERSION_2(n) && m == n + 1024, "no sheet needs more room than is said");
+    /* the longest, leftovers in its unused fields, with exactly their room and more */
+    must(becomes(2, sheet, n, m, wide_sheet, m) && becomes(2, sheet, n, m + 900, wide_sheet, m), "a sheet as version 2");
+    must(becomes(1, wide_sheet, m, n, sheet, n) && becomes(1, wide_sheet, m, m, sheet, n), "and back");
+    for (size_t less = 1; less < 2000; less += 37) {
+        must(refused_by(converts(2, sheet, n, m - less), ZAKVIND_OUTPUT_TOO_SHORT, 0), "version 2 with less room");
+        must(refused_by(converts(1, wide_sheet, m, n - less), ZAKVIND_OUTPUT_TOO_SHORT, 0), "version 1 with less room");
+    }
+    must(refused_by(converts(2, sheet, n, 0), ZAKVIND_OUTPUT_TOO_SHORT, 0), "version 2 without room");
+    must(refused_by(converts(1, wide_sheet, m, 0), ZAKVIND_OUTPUT_TOO_SHORT, 0), "version 1 without room");
+    /* the other way's version, before the room */
+    must(refused_by(converts(2, wide_sheet, m, 0), ZAKVIND_UNKNOWN_VERSION, 0), "version 2 as version 2");
+    must(refused_by(converts(1, sheet, n, 0), ZAKVIND_UNKNOWN_VERSION, 0), "version 1 as version 1");
+
+    /* one byte: a version alone, and what is none */
+    for (int version = 0; version < 256; version++) {
+        const uint8_t one = (uint8_t)version;
+        const zakvind_written to_2 = converts(2, &one, 1, m), to_1 = converts(1, &one, 1, m);
+        must(refused_by(to_2, version == 1 ? ZAKVIND_TRUNCATED : ZAKVIND_UNKNOWN_VERSION, version == 1), "a version to 2");
+        must(refused_by(to_1, version == 2 ? ZAKVIND_TRUNCATED : ZAKVIND_UNKNOWN_VERSION, version == 2), "a version to 1");
+        const uint64_t number = zakvind_read_sheet(&one, 1).number;
+        must(number == (version == 1 || version == 2 ? ZAKVIND_TRUNCATED : ZAKVIND_UNKNOWN_VERSION), "a version read");
+    }
+    must(refused_by(converts(2, sheet, 0, m), ZAKVIND_TRUNCATED, 0) && refused_by(converts(1, sheet, 0, m), ZAKVIND_TRUNCATED, 0), "no byte");
+
+    /* what the reader refuses: cut short, left over, too many, a value; before a first that does not fit */
+    for (int far_too = 0; far_too < 2; far_too++) {
+        for (size_t cut = 1; cut < n; cut += 997) {
+            refused_as_read(sheet, cut);
+            refused_as_read(wide_sheet, cut);
+        }
+        memcpy(again, sheet, n);
+        again[n] = 0;
+        refused_as_read(again, n + 1);
+        again[14] = 9;
+        refused_as_read(again, n);
+        again[14] = sheet[14];
+        again[n - 3] = 5;
+        refused_as_read(again, n);
+        wide_sheet[m - 3] = 5;
+        refused_as_read(wide_sheet, m);
+        wide_sheet[m - 3] = 2;
+        zakvind_put(first_of(0), 8, far);
+    }
+    zakvind_put(first_of(0), 8, 0);
+
+    /* the first geometry that does not fit, whatever its kind and before the room */
+    for (size_t i = 0; i < ZAKVIND_MOST_GEOMETRIES; i++) {
+        const uint64_t was = zakvind_get_u64(first_of(i)), place = (uint64_t)(first_of(i) - wide_sheet);
+        const uint64_t firsts[] = {far, far + was, (uint64_t)1 << 63, UINT64_MAX};
+        zakvind_put(first_of(ZAKVIND_MOST_GEOMETRIES - 1), 8, far);
+        for (size_t k = 0; k < sizeof firsts / sizeof *firsts; k++) {
+            zakvind_put(first_of(i), 8, firsts[k]);
+            must(zakvind_read_sheet(wide_sheet, m).number == 0, "it is read");
+            must(refused_by(converts(1, wide_sheet, m, k % 2 ? m : 0), ZAKVIND_TOO_FAR, place), "the first that does not fit");
+        }
+        zakvind_put(first_of(ZAKVIND_MOST_GEOMETRIES - 1), 8, 8 * (ZAKVIND_MOST_GEOMETRIES - 1));
+        zakvind_put(first_of(i), 8, far - 1);
+        must(converts(1, wide_sheet, m, m).number == 0, "2^32 - 1 fits");
+        memcpy(again, converted + AROUND, n);
+        must(becomes(2, again, n, m, wide_sheet, m), "and is the same in version 2");
+        zakvind_put(first_of(i), 8, was);
+    }
+    must(becomes(1, wide_sheet, m, n, sheet, n), "all is as it was");
 }
 
 /* ---- groups */
@@ -694,6 +976,29 @@ static void words(void)
         must(told.written == n && memcmp(text, of_many[i].line, n) == 0, "the words of many instances");
     }
     static const struct {
+        uint64_t call, number;
+        const char *line;
+    } of_versions[] = {
+        {ZAKVIND_CALL_SHEET, ZAKVIND_UNKNOWN_VERSION, "refused 1: version neither 1 nor 2, byte 70\n"},
+        {ZAKVIND_CALL_WRITE, ZAKVIND_UNKNOWN_VERSION, "refused 1: version neither 1 nor 2, byte 70\n"},
+        {ZAKVIND_CALL_TO_VERSION_2, ZAKVIND_UNKNOWN_VERSION, "refused 1: version not 1, byte 70\n"},
+        {ZAKVIND_CALL_TO_VERSION_1, ZAKVIND_UNKNOWN_VERSION, "refused 1: version not 2, byte 70\n"},
+        {ZAKVIND_CALL_TO_VERSION_2, ZAKVIND_TRUNCATED, "refused 2: sheet ends early, byte 70\n"},
+        {ZAKVIND_CALL_TO_VERSION_1, ZAKVIND_TRAILING_BYTES, "refused 3: bytes after the sheet, byte 70\n"},
+        {ZAKVIND_CALL_TO_VERSION_2, ZAKVIND_TOO_MANY, "refused 4: count above its limit, byte 70\n"},
+        {ZAKVIND_CALL_TO_VERSION_1, ZAKVIND_INVALID_VALUE, "refused 5: value outside its field, byte 70\n"},
+        {ZAKVIND_CALL_TO_VERSION_2, ZAKVIND_OUTPUT_TOO_SHORT, "refused 39: lent output too short\n"},
+        {ZAKVIND_CALL_TO_VERSION_1, ZAKVIND_OUTPUT_TOO_SHORT, "refused 39: lent output too short\n"},
+        {ZAKVIND_CALL_TO_VERSION_1, ZAKVIND_TOO_FAR, "refused 47: first vertex or primitive offset above 2^32 - 1, byte 70\n"},
+        {ZAKVIND_CALL_TO_VERSION_2, ZAKVIND_TOO_FAR, "refused 47: no such cause\n"},
+        {ZAKVIND_CALL_SHEET, ZAKVIND_TOO_FAR, "refused 47: no such cause\n"},
+    };
+    for (size_t i = 0; i < sizeof of_versions / sizeof *of_versions; i++) {
+        const size_t n = strlen(of_versions[i].line);
+        told = zakvind_words(of_versions[i].call, of_versions[i].number, 70, 0, 0, 0, 0, text, sizeof text);
+        must(told.written == n && memcmp(text, of_versions[i].line, n) == 0, "the words of versions");
+    }
+    static const struct {
         uint64_t e0, f0;
         const char *line;
     } of_scratch[] = {
@@ -709,7 +1014,7 @@ static void words(void)
         told = zakvind_words(ZAKVIND_CALL_BUILD, ZAKVIND_OUT_OF_MEMORY, of_scratch[i].e0, 0, of_scratch[i].f0, 0, 0, text, sizeof text);
         must(told.written == n && memcmp(text, of_scratch[i].line, n) == 0, "the words of an entry or a package");
     }
-    for (uint64_t call = 0; call < 9; call++)
+    for (uint64_t call = 0; call < 11; call++)
         for (uint64_t number = 0; number < 50; number++)
             for (uint64_t e = 0; e < 6; e++) {
                 const uint64_t top = UINT64_MAX;
@@ -722,14 +1027,38 @@ static void words(void)
 
 enum { STACK = 1 << 20 };
 
-static void reads(void) { must(zakvind_read_sheet(sheet, sizeof sheet).number == 0, "the longest sheet"); }
-static void writes(void) { must(zakvind_write_sheet(sheet, sizeof sheet, anew, sizeof anew).number == 0, "the longest sheet written"); }
+static void reads(void)
+{
+    must(zakvind_read_sheet(sheet, sizeof sheet).number == 0, "the longest sheet of version 1");
+    must(zakvind_read_sheet(wide_sheet, sizeof wide_sheet).number == 0, "the longest sheet");
+}
+static void writes(void)
+{
+    must(zakvind_write_sheet(sheet, sizeof sheet, anew, sizeof anew).number == 0, "the longest sheet of version 1 written");
+    must(zakvind_write_sheet(wide_sheet, sizeof wide_sheet, anew, sizeof anew).number == 0, "the longest sheet written");
+}
+static void widens(void) { must(zakvind_to_version_2(sheet, sizeof sheet, anew, sizeof anew).number == 0, "the longest sheet to version 2"); }
+static void narrows(void)
+{
+    must(zakvind_to_version_1(wide_sheet, sizeof wide_sheet, anew, sizeof anew).number == 0, "the longest sheet to version 1");
+}
+static void builds_wide(void)
+{
+    width = widths + 1;
+    build();
+    width = widths;
+    must(built.number == 0, "the largest wide build");
+}
 static void opens_deep(void) { must(opens(sizeof opened).written == ZAKVIND_SLOT_BYTES, "64 groups, each inside the next"); }
 static void opens_many(void)
 {
     must(refused(opens(sizeof opened), ZAKVIND_TOO_MANY_SLOTS, 0, 0, 0), "64 groups that each name the one before twice");
 }
-static void reports(void) { told = zakvind_report(sheet, sizeof sheet, text, sizeof text); }
+static void reports(void)
+{
+    told = zakvind_report(sheet, sizeof sheet, text, sizeof text);
+    told = zakvind_report(wide_sheet, sizeof wide_sheet, text, sizeof text);
+}
 
 static void submits(void)
 {
@@ -755,7 +1084,11 @@ static void appends_many(void)
     must(a.number == 0 && a.used == ZAKVIND_MOST_SLOTS * ONE, "512 instances");
 }
 
-static void explains(void) { told = zakvind_explain(sheet, sizeof sheet, text, sizeof text); }
+static void explains(void)
+{
+    told = zakvind_explain(sheet, sizeof sheet, text, sizeof text);
+    told = zakvind_explain(wide_sheet, sizeof wide_sheet, text, sizeof text);
+}
 static void speaks(void) { told = zakvind_words(ZAKVIND_CALL_BUILD, 26, 1, 2, 3, 4, 5, text, sizeof text); }
 static void rests(void) {}
 
@@ -790,8 +1123,11 @@ static void stacks(void)
     } calls[] = {
         {"read_sheet", reads, ZAKVIND_STACK_BYTES},
         {"write_sheet", writes, ZAKVIND_STACK_BYTES},
+        {"to_version_2", widens, ZAKVIND_STACK_BYTES},
+        {"to_version_1", narrows, ZAKVIND_STACK_BYTES},
         {"open_groups", opens_deep, ZAKVIND_GROUPS_STACK_BYTES},
         {"build", build, ZAKVIND_STACK_BYTES},
+        {"build_wide", builds_wide, ZAKVIND_STACK_BYTES},
         {"submit", submits, ZAKVIND_STACK_BYTES},
         {"append_instance", appends, ZAKVIND_STACK_BYTES},
         {"append_instances", appends_many, ZAKVIND_STACK_BYTES},
@@ -853,10 +1189,10 @@ static uint8_t bare_entries[ROUNDED * ZAKVIND_ENTRY_BYTES], bare_packages[ROUNDE
 
 static void build_bare(void)
 {
-    built = zakvind_build(alignment, buffers, 0, blases, ROUNDED * ZAKVIND_BLAS_BYTES, declared, 0, tlases, ROUNDED * ZAKVIND_TLAS_BYTES,
-                          bare_entries, sizeof bare_entries, geometries, 0, bare_packages, sizeof bare_packages, slots, 0,
-                          blas_offsets, room.blas_offsets, tlas_offsets, room.tlas_offsets, staging_ranges, room.staging_ranges,
-                          instances, 0, init_ranges, 0, compactable, room.compactable, lists, room.lists);
+    built = width->build(alignment, buffers, 0, blases, ROUNDED * ZAKVIND_BLAS_BYTES, declared, 0, tlases, ROUNDED * ZAKVIND_TLAS_BYTES,
+                         bare_entries, sizeof bare_entries, geometries, 0, bare_packages, sizeof bare_packages, slots, 0,
+                         blas_offsets, room.blas_offsets, tlas_offsets, room.tlas_offsets, staging_ranges, room.staging_ranges,
+                         instances, 0, init_ranges, 0, compactable, room.compactable, lists, room.lists);
 }
 
 static volatile uint64_t dividend = 1000, divisor = 7, quotient;
@@ -881,7 +1217,8 @@ static void count_divisions(void)
         alignment = others[i];
         must(divisions_of(build_bare) == least + 2 * 2 * ROUNDED && built.recorded == 1, "by another alignment each size is");
     }
-    printf("C: %zu of a build's %zu instructions divide, and %zu where the alignment is no power of two\n", least, instructions, (size_t)divided);
+    printf("C: %zu of a %s's %zu instructions divide, and %zu where the alignment is no power of two\n", least,
+           width == widths ? "build" : "wide build", instructions, (size_t)divided);
     alignment = 256;
 }
 
@@ -897,7 +1234,9 @@ static void divisions(void)
         puts("C: this machine does not stop at each instruction: divisions were not counted");
     } else {
         must(three == 3, "divisions are counted");
-        count_divisions();
+        for (width = widths; width < widths + 2; width++)
+            count_divisions();
+        width = widths;
     }
     must(sigaction(SIGTRAP, &was, NULL) == 0, "the trap can be given back");
 }
@@ -909,11 +1248,17 @@ int main(void)
 {
     records();
     fill();
-    make_sheet();
-    room_fits();
-    scratch();
+    make_sheets();
+    for (width = widths; width < widths + 2; width++) {
+        room_fits();
+        scratch();
+    }
+    as_narrow();
+    far_builds();
     nothing();
-    written();
+    written(sheet, sizeof sheet);
+    written(wide_sheet, sizeof wide_sheet);
+    both_ways();
     opened_groups();
     refused_append();
     many_as_one_by_one();
@@ -921,6 +1266,6 @@ int main(void)
     words();
     stacks();
     divisions();
-    puts("C: records, room, scratch, empty tables, written sheets, opened groups, appends and stack are as is said");
+    puts("C: records, room, scratch, wide builds, empty tables, written and converted sheets, opened groups, appends and stack are as is said");
     return 0;
 }

@@ -28,6 +28,9 @@
 //! # }
 //! ```
 //!
+//! A geometry may begin past 2^32: [`table`] writes it as version 2 of the sheet has it. Tables that are read from a sheet keep its
+//! [`Version`], and those of either are built; [`to_version_2`] and [`to_version_1`] write a sheet of one as one of the other.
+//!
 //! The package finds the static library in the folder `ZAKVIND_LIB_DIR`, beside itself, in the prefix that it is installed in, or
 //! where the repository's `rt staticlib capi` puts it.
 #![deny(missing_docs)]

@@ -54,7 +54,7 @@ fn written_sheets_are_those_of_the_request() {
 #[test]
 fn refusals_speak_the_librarys_words() {
     let said = |sheet: &[u8]| canonical_sheet(sheet).unwrap_err().to_string();
-    assert_eq!(said(&[2]), "refused 1: version not 1, byte 0; byte 0: version is 2, may be 1");
+    assert_eq!(said(&[3]), "refused 1: version neither 1 nor 2, byte 0; byte 0: version is 3, may be 1 or 2");
     assert_eq!(said(&[]), "refused 2: sheet ends early, byte 0; byte 0: version has 1 byte, of which 0 bytes are there");
     let mut none = vec![0; 31];
     (none[0], none[1]) = (1, 1);

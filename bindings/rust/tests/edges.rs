@@ -5,6 +5,7 @@ use zakvind::*;
 
 /// The tables of a build that is accepted: a triangle Blas with indices and a transform, a box Blas, a Tlas over both.
 struct World {
+    version: Version,
     tables: [Vec<u8>; 8],
 }
 
@@ -27,6 +28,7 @@ impl World {
             BlasGeometrySizeDescriptor { count: 3, index_format: IndexFormat::Uint16, index_count: Some(3), ..Default::default() };
         let instance = TlasInstance { mask: 255, transform: IDENTITY, ..Default::default() };
         World {
+            version: Version::Two,
             tables: [
                 table(&[buffer; 4]).unwrap(),
                 table(&[
@@ -48,9 +50,16 @@ impl World {
         }
     }
 
+    /// The same in version 1: of each geometry's `first`, eight bytes from the sixth on, the lower four.
+    fn narrow() -> Self {
+        let mut world = World { version: Version::One, ..World::new() };
+        world.tables[5] = world.tables[5].chunks(48).flat_map(|g| [&g[..9], &g[13..]].concat()).collect();
+        world
+    }
+
     fn tables(&self) -> Tables<'_> {
         let [buffers, blases, declared, tlases, entries, geometries, packages, slots] = &self.tables;
-        Tables { buffers, blases, declared, tlases, entries, geometries, packages, slots, actions: &[] }
+        Tables { version: self.version, buffers, blases, declared, tlases, entries, geometries, packages, slots, actions: &[] }
     }
 
     fn build(&self) -> Result<Built, BuildRefused> {
@@ -58,15 +67,17 @@ impl World {
         build_acceleration_structures(256, &tables, Outputs::for_tables(&tables).lend())
     }
 
-    /// The misfit of the build with a field of a record set.
+    /// The misfit of the build with a field of a record set, which is the same in both versions.
     fn with(section: usize, record: usize, field: &str, value: u64) -> (u64, String) {
-        let mut world = World::new();
-        let s = &SECTIONS[section - 1];
-        let f = s.fields.iter().find(|f| f.name == field).unwrap();
-        let at = record * s.bytes + f.at;
-        world.tables[section - 1][at..at + f.width].copy_from_slice(&value.to_le_bytes()[..f.width]);
-        let refused = world.build().unwrap_err();
-        (refused.number, refused.misfit.expect("it is named").to_string())
+        let [one, two] = [World::narrow(), World::new()].map(|mut world| {
+            let s = world.version.section(section).unwrap();
+            let f = s.fields.iter().find(|f| f.name == field).unwrap();
+            let at = record * s.bytes + f.at;
+            world.tables[section - 1][at..at + f.width].copy_from_slice(&value.to_le_bytes()[..f.width]);
+            world.build().unwrap_err()
+        });
+        assert_eq!(one, two);
+        (two.number, two.misfit.expect("it is named").to_string())
     }
 }
 
@@ -113,7 +124,7 @@ fn no_section_number_panics() {
         assert_eq!(read.section(number), None);
     }
     for number in 1..=9 {
-        assert_eq!(read.section(number).unwrap().len() % SECTIONS[number - 1].bytes, 0);
+        assert_eq!(read.section(number).unwrap().len() % read.version.section(number).unwrap().bytes, 0);
     }
 }
 
@@ -181,21 +192,21 @@ fn fields_are_named() {
 #[test]
 fn unused_fields_are_not_named() {
     // of boxes nothing after the data buffer is used
-    let mut world = World::new();
-    world.tables[5][44 + 20] = 9;
-    world.tables[5][44 + 28] = 9;
-    world.tables[2][18 + 12] = 9;
-    assert!(world.build().is_ok());
-    let tables = world.tables();
-    let boxes = tables.records::<BlasGeometry>().unwrap()[1];
-    assert_eq!((boxes.index_format, boxes.index_buffer, boxes.first_index), (IndexFormat::None, None, None));
-    assert_eq!(tables.records::<BlasGeometrySizeDescriptor>().unwrap()[1].index_format, IndexFormat::None);
+    for (mut world, bytes) in [(World::narrow(), 44), (World::new(), 48)] {
+        let boxes = 2 * bytes - 24;
+        world.tables[5][boxes] = 9;
+        world.tables[5][boxes + 8] = 9;
+        world.tables[2][18 + 12] = 9;
+        assert!(world.build().is_ok());
+        let tables = world.tables();
+        let boxes = tables.records::<BlasGeometry>().unwrap()[1];
+        assert_eq!((boxes.index_format, boxes.index_buffer, boxes.first_index), (IndexFormat::None, None, None));
+        assert_eq!(tables.records::<BlasGeometrySizeDescriptor>().unwrap()[1].index_format, IndexFormat::None);
+    }
 }
 
 #[test]
 fn outputs_fit_exactly() {
-    let world = World::new();
-    let tables = world.tables();
     let expected = Written {
         blas_offsets: 2,
         tlas_offsets: 1,
@@ -205,8 +216,6 @@ fn outputs_fit_exactly() {
         compactable: 1,
         lists: 2 + 2 + 2,
     };
-    assert_eq!(Written::for_tables(&tables), expected);
-    assert_eq!(world.build().unwrap().recorded().unwrap().written, expected);
     // one element less of any is too short
     let shorten: [fn(&mut Outputs); 7] = [
         |o| o.blas_offsets.truncate(o.blas_offsets.len() - 1),
@@ -217,10 +226,15 @@ fn outputs_fit_exactly() {
         |o| o.compactable.truncate(o.compactable.len() - 1),
         |o| o.lists.truncate(o.lists.len() - 1),
     ];
-    for short in shorten {
-        let mut outputs = Outputs::for_tables(&tables);
-        short(&mut outputs);
-        assert_eq!(build_acceleration_structures(256, &tables, outputs.lend()).unwrap_err().number, 39);
+    for world in [World::narrow(), World::new()] {
+        let tables = world.tables();
+        assert_eq!(Written::for_tables(&tables), expected);
+        assert_eq!(world.build().unwrap().recorded().unwrap().written, expected);
+        for short in shorten {
+            let mut outputs = Outputs::for_tables(&tables);
+            short(&mut outputs);
+            assert_eq!(build_acceleration_structures(256, &tables, outputs.lend()).unwrap_err().number, 39);
+        }
     }
 }
 
@@ -260,6 +274,8 @@ fn records_read_back_are_the_same() {
     same::<TlasPackage>(&tables, tables.packages);
     same::<Option<TlasInstance>>(&tables, tables.slots);
     same::<Action>(&tables, &actions);
+    // geometries of version 1 are the same records
+    assert_eq!(World::narrow().tables().records::<BlasGeometry>(), tables.records::<BlasGeometry>());
     // a float by its bits
     let slot = Some(TlasInstance { transform: [f32::from_bits(0xffa0_0001); 12], ..Default::default() });
     let slots = table(&[slot]).unwrap();
@@ -283,7 +299,7 @@ fn records_are_as_long_as_their_sections_say() {
         table(&[None::<TlasInstance>]).unwrap().len(),
         table(&[Action::Build]).unwrap().len(),
     ];
-    assert_eq!(lengths, SECTIONS.each_ref().map(|s| s.bytes));
+    assert_eq!(lengths, Version::Two.sections().each_ref().map(|s| s.bytes));
 }
 
 #[test]
@@ -298,7 +314,7 @@ fn refused_sheets_are_named() {
         changed[at] = byte;
         named(&changed)
     };
-    assert_eq!(with(0, 7), (1, "byte 0: version is 7, may be 1".into()));
+    assert_eq!(with(0, 7), (1, "byte 0: version is 7, may be 1 or 2".into()));
     assert_eq!(named(&sheet[..20]), (2, "byte 15: buffer 0, size has 8 bytes, of which 5 bytes are there".into()));
     assert_eq!(named(&[&sheet[..], &[1, 2]].concat()), (3, format!("byte {}: 2 bytes are after the sheet's end", sheet.len())));
     assert_eq!(with(14, 9), (4, "byte 13: count of buffers is 2305, may be 0 to 256".into()));
