@@ -126,7 +126,7 @@ static void given(unsigned call, const uint64_t *answer, size_t fields)
     }
     if (answer[0] < 64)
         numbers[answer[0]]++;
-    must(answer[0] <= 46, "a number of the table");
+    must(answer[0] <= 47, "a number of the table");
 }
 
 /* ---- the input */
@@ -202,6 +202,64 @@ static void write_anew(const uint8_t *sheet, size_t n, size_t room, const zakvin
     must(w.number == 0 && memcmp(again, out[0], n) == 0, "written once more it is the same");
 }
 
+typedef zakvind_written converter(const uint8_t *sheet, size_t sheet_len, uint8_t *out, size_t out_len);
+
+/* The place of the first offset from 2^32 on of a sheet of version 2, or 0. */
+static uint64_t too_far(const uint8_t *sheet, const zakvind_sheet *r)
+{
+    for (uint64_t i = 0; i < r->sections[5].count; i++) {
+        const uint64_t place = r->sections[5].start + i * ZAKVIND_WIDE_GEOMETRY_BYTES + 5;
+        input in = {sheet + place, 8};
+        if (number(&in, 8) >> 32)
+            return place;
+    }
+    return 0;
+}
+
+/* The sheet in version `to`, into as much room as is needed, into a byte less and into `room`; what is written is read, says the same lines
+ * and comes back as the same bytes. */
+static void convert(uint64_t to, const uint8_t *sheet, size_t n, size_t room, const zakvind_sheet *r)
+{
+    converter *there = to == 2 ? zakvind_to_version_2 : zakvind_to_version_1, *back = to == 2 ? zakvind_to_version_1 : zakvind_to_version_2;
+    const size_t wider = r->number ? 0 : r->sections[5].count * (ZAKVIND_WIDE_GEOMETRY_BYTES - ZAKVIND_GEOMETRY_BYTES);
+    const size_t needed = to == 2 ? n + wider : n - wider;
+    const int k = count;
+    uint64_t number = r->number, place = r->place;
+    if (n && sheet[0] != 3 - to)
+        number = ZAKVIND_UNKNOWN_VERSION, place = 0;
+    else if (!number && to == 1 && (place = too_far(sheet, r)))
+        number = ZAKVIND_TOO_FAR;
+    const size_t rooms[3] = {needed, needed ? needed - 1 : 0, room};
+    uint8_t *out[3];
+    for (int i = 0; i < 3; i++) {
+        out[i] = lend(rooms[i], NULL, 0, 1);
+        const zakvind_written w = there(sheet, n, out[i], rooms[i]);
+        given(11 + (unsigned)to, (const uint64_t *)&w, 3);
+        const uint64_t refused = number ? number : rooms[i] < needed ? ZAKVIND_OUTPUT_TOO_SHORT : 0;
+        must(w.number == refused && w.place == place, "1 for another version, the reader's refusal, 47, then 39");
+        must(w.written == (refused ? 0 : needed), "a sheet is converted whole or not");
+        kept(k + i, w.written, "what is past the sheet is kept, and all where it is refused");
+        seen(k + i, w.written);
+        must(refused || memcmp(out[i], out[0], needed) == 0, "the same bytes whatever the room");
+        speak(to == 2 ? 8 : 9, w.number, w.place, 0, 0, 0, 0);
+        done_from(k + i + 1);
+    }
+    if (number)
+        return;
+    const zakvind_sheet s = zakvind_read_sheet(out[0], needed);
+    must(s.number == 0 && s.version == to && s.alignment == r->alignment && s.counter == r->counter, "a converted sheet is read");
+    for (int i = 0; i < 9; i++)
+        must(s.sections[i].count == r->sections[i].count, "as many records in each section");
+    done_from(k + 1);
+    uint8_t *again = lend(n, NULL, 0, 1);
+    const zakvind_written w = back(out[0], needed, again, n);
+    must(w.number == 0 && w.written == n && memcmp(again, sheet, n) == 0, "there and back the same bytes");
+    uint8_t *lines = lend(room, NULL, 0, 1), *same = lend(room, NULL, 0, 1);
+    const zakvind_reported a = zakvind_report(sheet, n, lines, room), b = zakvind_report(out[0], needed, same, room);
+    must(a.number == b.number && a.written == b.written && memcmp(lines, same, a.written) == 0, "a converted sheet says the same lines");
+    done_from(k);
+}
+
 static void call_sheet(input *in)
 {
     size_t room = number(in, 2), n = in->left;
@@ -227,10 +285,15 @@ static void call_sheet(input *in)
     must(w.number == 39 || (w.written > t.written && memcmp(words, out, t.written) == 0), "an explanation begins as its report");
     speak(1, r.number, r.place, 0, 0, 0, 0);
     write_anew(sheet, n, room, &r);
+    done_from(3);
+    convert(2, sheet, n, room, &r);
+    done_from(3);
+    convert(1, sheet, n, room, &r);
     kept(0, 0, "the sheet is kept");
 }
 
-static void call_build(input *in)
+/* With geometries of 44 bytes, or wide ones of 48. */
+static void call_build(input *in, int wide)
 {
     static const size_t width[7] = {8, 8, 8, 1, 8, 2, 2};
     uint32_t alignment = (uint32_t)number(in, 4);
@@ -245,9 +308,10 @@ static void call_build(input *in)
         t[i] = take(in, &n[i], 1, 1);
     for (int i = 0; i < 7; i++)
         o[i] = lend(m[i] * width[i], NULL, 0, 1);
-    zakvind_built b = zakvind_build(alignment, t[0], n[0], t[1], n[1], t[2], n[2], t[3], n[3], t[4], n[4], t[5], n[5], t[6], n[6],
-                                    t[7], n[7], o[0], m[0], o[1], m[1], o[2], m[2], o[3], m[3], o[4], m[4], o[5], m[5], o[6], m[6]);
-    given(2, (const uint64_t *)&b, 15);
+    zakvind_built b = (wide ? zakvind_build_wide : zakvind_build)(
+        alignment, t[0], n[0], t[1], n[1], t[2], n[2], t[3], n[3], t[4], n[4], t[5], n[5], t[6], n[6], t[7], n[7], o[0], m[0], o[1], m[1],
+        o[2], m[2], o[3], m[3], o[4], m[4], o[5], m[5], o[6], m[6]);
+    given(wide ? 14 : 2, (const uint64_t *)&b, 15);
     const uint64_t written[7] = {b.blas_offsets, b.tlas_offsets, b.staging_ranges, b.instances, b.init_ranges, b.compactable, b.lists};
     for (int i = 0; i < 8; i++)
         kept(i, 0, "the tables are kept");
@@ -258,7 +322,7 @@ static void call_build(input *in)
         seen(8 + i, written[i] * width[i]);
     }
     must(b.number == 0 || (b.recorded == 0 && b.scratch_size == 0), "a refusal records nothing");
-    const zakvind_room room = zakvind_room_for(t[1], n[1], t[4], n[4], t[5], n[5], t[6], n[6], t[7], n[7]);
+    const zakvind_room room = (wide ? zakvind_room_for_wide : zakvind_room_for)(t[1], n[1], t[4], n[4], t[5], n[5], t[6], n[6], t[7], n[7]);
     const size_t rooms[7] = {room.blas_offsets, room.tlas_offsets, room.staging_ranges, room.instances,
                              room.init_ranges, room.compactable, room.lists};
     int fits = 1;
@@ -443,11 +507,12 @@ int LLVMFuzzerTestOneInput(const uint8_t *data, size_t size)
 #endif
     switch (head % 8) {
     case 0: call_sheet(&in); break;
-    case 1: call_build(&in); break;
+    case 1: call_build(&in, 0); break;
     case 2: call_submit(&in); break;
     case 3: call_append(&in); break;
     case 4: call_groups(&in); break;
     case 5: call_many(&in); break;
+    case 6: call_build(&in, 1); break;
     default: break;
     }
     done_from(0);

@@ -4,6 +4,8 @@
 
 #[path = "src/canonical.rs"]
 mod canonical;
+#[path = "src/convert.rs"]
+mod convert;
 #[path = "src/groups.rs"]
 mod groups;
 #[path = "src/layout.rs"]
@@ -17,6 +19,7 @@ mod side;
 #[path = "src/words.rs"]
 mod words;
 
+use layout::Version;
 use side::{Lent, Outputs, Side};
 use std::slice::{from_raw_parts as lent, from_raw_parts_mut as lent_mut};
 
@@ -34,52 +37,61 @@ pub unsafe extern "C" fn zakvind_read_sheet(sheet: *const u8, n: usize) -> Numbe
     Numbers(reading().read_sheet(lent(sheet, n)))
 }
 
-#[no_mangle]
-pub unsafe extern "C" fn zakvind_build(
-    alignment: u32,
-    t0: *const u8,
-    n0: usize,
-    t1: *const u8,
-    n1: usize,
-    t2: *const u8,
-    n2: usize,
-    t3: *const u8,
-    n3: usize,
-    t4: *const u8,
-    n4: usize,
-    t5: *const u8,
-    n5: usize,
-    t6: *const u8,
-    n6: usize,
-    t7: *const u8,
-    n7: usize,
-    o0: *mut u64,
-    m0: usize,
-    o1: *mut u64,
-    m1: usize,
-    o2: *mut u64,
-    m2: usize,
-    o3: *mut u8,
-    m3: usize,
-    o4: *mut u64,
-    m4: usize,
-    o5: *mut u16,
-    m5: usize,
-    o6: *mut u16,
-    m6: usize,
-) -> Numbers<15> {
-    let tables = [lent(t0, n0), lent(t1, n1), lent(t2, n2), lent(t3, n3), lent(t4, n4), lent(t5, n5), lent(t6, n6), lent(t7, n7)];
-    let out = Outputs {
-        blas_offsets: lent_mut(o0, m0),
-        tlas_offsets: lent_mut(o1, m1),
-        staging_ranges: lent_mut(o2, m2),
-        instances: lent_mut(o3, m3),
-        init_ranges: lent_mut(o4, m4),
-        compactable: lent_mut(o5, m5),
-        lists: lent_mut(o6, m6),
+/// A build takes the same with geometries of either width.
+macro_rules! build {
+    ($name:ident, $version:expr) => {
+        #[no_mangle]
+        pub unsafe extern "C" fn $name(
+            alignment: u32,
+            t0: *const u8,
+            n0: usize,
+            t1: *const u8,
+            n1: usize,
+            t2: *const u8,
+            n2: usize,
+            t3: *const u8,
+            n3: usize,
+            t4: *const u8,
+            n4: usize,
+            t5: *const u8,
+            n5: usize,
+            t6: *const u8,
+            n6: usize,
+            t7: *const u8,
+            n7: usize,
+            o0: *mut u64,
+            m0: usize,
+            o1: *mut u64,
+            m1: usize,
+            o2: *mut u64,
+            m2: usize,
+            o3: *mut u8,
+            m3: usize,
+            o4: *mut u64,
+            m4: usize,
+            o5: *mut u16,
+            m5: usize,
+            o6: *mut u16,
+            m6: usize,
+        ) -> Numbers<15> {
+            let tables =
+                [lent(t0, n0), lent(t1, n1), lent(t2, n2), lent(t3, n3), lent(t4, n4), lent(t5, n5), lent(t6, n6), lent(t7, n7)];
+            let out = Outputs {
+                blas_offsets: lent_mut(o0, m0),
+                tlas_offsets: lent_mut(o1, m1),
+                staging_ranges: lent_mut(o2, m2),
+                instances: lent_mut(o3, m3),
+                init_ranges: lent_mut(o4, m4),
+                compactable: lent_mut(o5, m5),
+                lists: lent_mut(o6, m6),
+            };
+            Numbers(reading().build($version, alignment, tables, out))
+        }
     };
-    Numbers(reading().build(alignment, tables, out))
 }
+
+build!(zakvind_build, Version::One);
+build!(zakvind_build_wide, Version::Two);
 
 #[no_mangle]
 pub unsafe extern "C" fn zakvind_submit(
@@ -152,6 +164,16 @@ fn written(text: &[u8], out: &mut [u8]) -> Numbers<2> {
 #[no_mangle]
 pub unsafe extern "C" fn zakvind_write_sheet(sheet: *const u8, n: usize, out: *mut u8, m: usize) -> Numbers<3> {
     Numbers(reading().write(lent(sheet, n), lent_mut(out, m)))
+}
+
+#[no_mangle]
+pub unsafe extern "C" fn zakvind_to_version_2(sheet: *const u8, n: usize, out: *mut u8, m: usize) -> Numbers<3> {
+    Numbers(reading().convert(Version::Two, lent(sheet, n), lent_mut(out, m)))
+}
+
+#[no_mangle]
+pub unsafe extern "C" fn zakvind_to_version_1(sheet: *const u8, n: usize, out: *mut u8, m: usize) -> Numbers<3> {
+    Numbers(reading().convert(Version::One, lent(sheet, n), lent_mut(out, m)))
 }
 
 #[no_mangle]

@@ -305,6 +305,11 @@ fn encoder_id() -> CommandEncoderId {
     CommandEncoderId::zip(0, 1)
 }
 
+/// The first vertex or the primitive offset, as the Rust has it.
+fn offset(g: &input::Geometry) -> u32 {
+    u32::try_from(g.first).expect("the Rust knows offsets below 2^32")
+}
+
 /// The ids, by the Rust's own function. The iterators lent to it note which entry, geometry, package and slot it has
 /// drawn, so that E of a 6 is where the Rust stopped.
 fn resolve(w: &World, input: &Input, sizes: &Sizes) -> Result<ArcCommand, CommandEncoderError> {
@@ -321,7 +326,7 @@ fn resolve(w: &World, input: &Input, sizes: &Sizes) -> Result<ArcCommand, Comman
                     vertex_buffer: buffer_id(g.buffer),
                     index_buffer: g.index_buffer.map(buffer_id),
                     transform_buffer: g.transform_buffer.map(buffer_id),
-                    first_vertex: g.first,
+                    first_vertex: offset(g),
                     vertex_stride: g.stride,
                     first_index: g.first_index,
                     transform_buffer_offset: g.transform_offset,
@@ -331,7 +336,7 @@ fn resolve(w: &World, input: &Input, sizes: &Sizes) -> Result<ArcCommand, Comman
             BlasGeometries::AabbGeometries(Box::new(e.geometries.iter().enumerate().map(move |(j, g)| {
                 rec::with(|r| r.geometry = j);
                 let (size, aabb_buffer) = (&sizes.boxes[i][j], buffer_id(g.buffer));
-                BlasAabbGeometry { size, stride: g.stride, aabb_buffer, primitive_offset: g.first }
+                BlasAabbGeometry { size, stride: g.stride, aabb_buffer, primitive_offset: offset(g) }
             })))
         };
         BlasBuildEntry { blas_id: blas_id(e.blas), geometries }

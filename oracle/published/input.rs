@@ -42,7 +42,8 @@ pub struct Tlas {
 pub struct Geometry {
     pub flags: u8,
     pub count: u32,
-    pub first: u32,
+    /// the Rust has a u32 here, and is driven with nothing above it
+    pub first: u64,
     pub stride: u64,
     pub buffer: u16,
     pub vertex_format: u8,

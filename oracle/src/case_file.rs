@@ -1,7 +1,7 @@
 //! A case as text: one line for each record, action and list, with its numbers; to be read by people and run again.
 use std::fmt::Write as _;
 
-use crate::layout::{put_number, Raw, BLASES, SECTIONS, SIZES, TLASES, WIDTHS};
+use crate::layout::{put_number, Raw, Version, BLASES, SECTIONS, TLASES, WIDTHS};
 use crate::side::{Case, Part};
 
 const ROOMS: [&str; 7] = ["blas_offsets", "tlas_offsets", "staging_ranges", "instances", "init_ranges", "compactable", "lists"];
@@ -19,13 +19,14 @@ fn numbers<T: std::fmt::Display>(values: &[T]) -> String {
 }
 
 /// The whole records of a table line by line, and what is left of it as bytes.
-fn write_table(out: &mut String, section: usize, table: &[u8]) {
-    let mut raw = Raw::default();
+fn write_table(out: &mut String, version: Version, section: usize, table: &[u8]) {
+    let mut raw = Raw { version: version.number(), ..Raw::default() };
     raw.take_table(section, table);
     for i in 0..raw.count(section) {
         let _ = writeln!(out, "{}{}", SECTIONS[section], numbers(raw.record(section, i)));
     }
-    let left = &table[table.len() / SIZES[section] * SIZES[section]..];
+    let size = version.size(section);
+    let left = &table[table.len() / size * size..];
     if !left.is_empty() {
         let _ = writeln!(out, "part {} {}", SECTIONS[section], hex(left));
     }
@@ -40,7 +41,7 @@ pub fn write(case: &Case) -> String {
                 Some(raw) => {
                     let _ = writeln!(out, "head {} {} {}", raw.version, raw.alignment, raw.counter);
                     for s in 0..9 {
-                        write_table(&mut out, s, &raw.table(s));
+                        write_table(&mut out, raw.laid_out(), s, &raw.table(s));
                     }
                 }
                 None => {
@@ -48,10 +49,10 @@ pub fn write(case: &Case) -> String {
                 }
             }
         }
-        Case::Build { alignment, tables, rooms } => {
+        Case::Build { version, alignment, tables, rooms } => {
             let _ = writeln!(out, "alignment {alignment}");
             for (s, table) in tables.iter().enumerate() {
-                write_table(&mut out, s, table);
+                write_table(&mut out, *version, s, table);
             }
             for (name, room) in ROOMS.iter().zip(rooms) {
                 let _ = writeln!(out, "room {name} {room}");
@@ -59,8 +60,8 @@ pub fn write(case: &Case) -> String {
         }
         Case::Submit { indices, blases, tlases, dependency_counts, dependencies, pieces } => {
             let _ = writeln!(out, "indices {} {}", indices[0], indices[1]);
-            write_table(&mut out, BLASES, blases);
-            write_table(&mut out, TLASES, tlases);
+            write_table(&mut out, Version::One, BLASES, blases);
+            write_table(&mut out, Version::One, TLASES, tlases);
             let _ = writeln!(out, "dependency_counts{}", numbers(dependency_counts));
             for cells in dependencies.chunks(512) {
                 let n = cells.len();
@@ -75,13 +76,13 @@ pub fn write(case: &Case) -> String {
             }
         }
         Case::Append { tlases, blases, tlas, instance, room, used } => {
-            write_table(&mut out, BLASES, blases);
-            write_table(&mut out, TLASES, tlases);
+            write_table(&mut out, Version::One, BLASES, blases);
+            write_table(&mut out, Version::One, TLASES, tlases);
             let _ = writeln!(out, "instance {tlas} {}\nroom {room} {used}", hex(instance));
         }
         Case::Many { tlases, blases, tlas, items, room, used } => {
-            write_table(&mut out, BLASES, blases);
-            write_table(&mut out, TLASES, tlases);
+            write_table(&mut out, Version::One, BLASES, blases);
+            write_table(&mut out, Version::One, TLASES, tlases);
             let _ = writeln!(out, "into {tlas}\nroom {room} {used}");
             for item in items.chunks(55) {
                 let _ = writeln!(out, "item {}", hex(item));
@@ -98,6 +99,7 @@ pub fn write(case: &Case) -> String {
 pub fn read(text: &str) -> Result<Case, String> {
     let mut lines = text.lines().map(|l| l.split('#').next().unwrap().trim()).filter(|l| !l.is_empty());
     let kind = lines.next().ok_or("nothing there")?;
+    let build = if kind == "wide build" { Version::Two } else { Version::One };
     let mut tables: [Vec<u8>; 9] = Default::default();
     let (mut head, mut alignment, mut indices, mut rooms, mut sheet_room) = ([1, 256, 1], 256, [0, 1], [0; 7], 0);
     let (mut bytes, mut counts, mut cells, mut actions, mut pieces) = (None, Vec::new(), Vec::new(), Vec::new(), Vec::new());
@@ -112,7 +114,9 @@ pub fn read(text: &str) -> Result<Case, String> {
             if values.len() != WIDTHS[s].len() {
                 return Err(bad());
             }
-            for (v, w) in values.iter().zip(WIDTHS[s]) {
+            // a sheet's head stands before its tables
+            let version = if kind.ends_with("sheet") { Raw { version: head[0], ..Raw::default() }.laid_out() } else { build };
+            for (v, w) in values.iter().zip(version.widths(s)) {
                 put_number(&mut tables[s], *v, *w);
             }
             continue;
@@ -126,7 +130,7 @@ pub fn read(text: &str) -> Result<Case, String> {
             ("bytes", _) => bytes = Some(unhex(words.get(1).unwrap_or(&"")).ok_or_else(bad)?),
             ("alignment", _) => alignment = number(1)?,
             ("indices", _) => indices = rest(1)?.try_into().map_err(|_| bad())?,
-            ("room", "sheet") => sheet_room = words.get(1).and_then(|w| w.parse().ok()).ok_or_else(bad)?,
+            ("room", "sheet" | "wide sheet") => sheet_room = words.get(1).and_then(|w| w.parse().ok()).ok_or_else(bad)?,
             ("room", "append" | "many") => (room, used) = (number(1)?, number(2)?),
             ("room", "groups") => room = number(1)?,
             ("room", _) => {
@@ -161,10 +165,10 @@ pub fn read(text: &str) -> Result<Case, String> {
     };
     let [blases, tlases] = [tables[BLASES].clone(), tables[TLASES].clone()];
     match kind {
-        "sheet" => Ok(Case::Sheet { bytes: bytes.unwrap_or_else(|| sheet_of(&tables)), room: sheet_room }),
-        "build" => {
+        "sheet" | "wide sheet" => Ok(Case::Sheet { bytes: bytes.unwrap_or_else(|| sheet_of(&tables)), room: sheet_room }),
+        "build" | "wide build" => {
             let [a, b, c, d, e, f, g, h, _] = tables;
-            Ok(Case::Build { alignment: alignment as u32, tables: [a, b, c, d, e, f, g, h], rooms })
+            Ok(Case::Build { version: build, alignment: alignment as u32, tables: [a, b, c, d, e, f, g, h], rooms })
         }
         "submission" => Ok(Case::Submit { indices, blases, tlases, dependency_counts: counts, dependencies: cells, pieces }),
         "append" => Ok(Case::Append { tlases, blases, tlas, instance, room: room as usize, used }),
@@ -178,7 +182,7 @@ pub fn read(text: &str) -> Result<Case, String> {
 pub fn difference(rust: &[Part], other: &[Part]) -> String {
     let mut out = String::new();
     for (a, b) in rust.iter().zip(other) {
-        let answer = ["read", "report", "write", "build", "submit", "append", "many", "open"].contains(&a.name);
+        let answer = ["read", "report", "write", "to_2", "to_1", "build", "submit", "append", "many", "open"].contains(&a.name);
         if answer || a != b {
             let mark = if a == b { " " } else { "*" };
             if answer || a.values.len() <= 8 {

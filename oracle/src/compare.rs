@@ -9,10 +9,19 @@ use crate::side::{Case, Part, Side};
 use crate::{case_file, generate, shrink, watch};
 
 /// Numbers that the Rust, its stand-ins or the paper can give, by call.
-const CAN_GIVE: [(&str, &[u64]); 6] = [
+const CAN_GIVE: [(&str, &[u64]); 9] = [
     ("sheet", &[0, 1, 2, 3, 4, 5]),
+    ("to_2", &[0, 1, 2, 3, 4, 5, 39]),
+    ("to_1", &[0, 1, 2, 3, 4, 5, 39, 47]),
     (
         "build",
+        &[
+            0, 4, 5, 6, 10, 11, 12, 13, 14, 15, 16, 17, 18, 19, 20, 21, 22, 23, 24, 25, 26, 27, 28, 29, 30, 31, 32, 33, 34, 35, 36,
+            37, 38, 39,
+        ],
+    ),
+    (
+        "wide",
         &[
             0, 4, 5, 6, 10, 11, 12, 13, 14, 15, 16, 17, 18, 19, 20, 21, 22, 23, 24, 25, 26, 27, 28, 29, 30, 31, 32, 33, 34, 35, 36,
             37, 38, 39,
@@ -23,6 +32,22 @@ const CAN_GIVE: [(&str, &[u64]); 6] = [
     ("many", &[0, 5, 6, 34, 35, 39]),
     ("open", &[0, 2, 3, 4, 5, 39, 45, 46]),
 ];
+
+/// Of these calls counted apart: sheets of version 2, and builds of version 2 with an offset from 2^32 on, of which the Rust says nothing.
+const APART: [(&str, &[u64]); 2] = [
+    ("sheet_2", &[0, 2, 3, 4, 5]),
+    (
+        "above",
+        &[
+            0, 6, 10, 11, 12, 13, 14, 15, 16, 17, 18, 19, 20, 21, 22, 23, 24, 25, 26, 27, 28, 29, 30, 31, 32, 33, 34, 35, 36, 37,
+            38, 39,
+        ],
+    ),
+];
+
+fn can_give() -> impl Iterator<Item = (&'static str, &'static [u64])> {
+    CAN_GIVE.into_iter().chain(APART)
+}
 
 /// What both sides make of a case; an error is a panic, of either.
 pub fn both(rust: &mut RustSide, other: &mut dyn Side, case: &Case) -> (Result<Vec<Part>, String>, Result<Vec<Part>, String>) {
@@ -51,7 +76,7 @@ fn differs(rust: &mut RustSide, other: &mut dyn Side, case: &Case) -> bool {
 fn print_tally(tally: &Tally) {
     let of = |call: &'static str, number: u64, mark: Mark| tally.answers.get(&(call, number, mark)).copied().unwrap_or(0);
     println!("answers compared, by call and number: the Rust's own, a stand-in's, the paper's");
-    for (call, numbers) in CAN_GIVE {
+    for (call, numbers) in can_give() {
         for &n in numbers {
             let marks = [Mark::Rust, Mark::StandIn, Mark::Paper].map(|m| of(call, n, m));
             println!("  {call:<7} {n:>2} {:>10} {:>10} {:>10}", marks[0], marks[1], marks[2]);
@@ -68,7 +93,7 @@ fn print_tally(tally: &Tally) {
 
 fn missing(tally: &Tally) -> Vec<String> {
     let mut missing = Vec::new();
-    for (call, numbers) in CAN_GIVE {
+    for (call, numbers) in can_give() {
         for &n in numbers {
             if !tally.answers.keys().any(|k| k.0 == call && k.1 == n) {
                 missing.push(format!("{call} {n}"));
@@ -83,15 +108,16 @@ pub fn run(other: &mut dyn Side, name: &str, count: u64, seed: u64, most: usize,
     let start = Instant::now();
     let mut rust = RustSide::checked();
     let mut spare = RustSide::default();
-    let (mut kinds, mut differences) = (std::collections::BTreeMap::new(), 0);
+    let (mut kinds, mut run, mut differences) = (std::collections::BTreeMap::new(), 0, 0);
     watch::start(seed);
     for index in 0..count {
         watch::at(index);
-        let case = generate::case(seed, index);
-        *kinds.entry(case.kind()).or_insert(0u64) += 1;
-        if !differs(&mut rust, other, &case) {
-            continue;
+        let cases = generate::cases(seed, index);
+        run += 1;
+        for case in &cases {
+            *kinds.entry(case.kind()).or_insert(0u64) += 1;
         }
+        let Some(case) = cases.into_iter().find(|case| differs(&mut rust, other, case)) else { continue };
         differences += 1;
         if !quiet {
             println!("difference at case {index} of seed {seed}");
@@ -121,8 +147,7 @@ pub fn run(other: &mut dyn Side, name: &str, count: u64, seed: u64, most: usize,
     let counts: Vec<String> = kinds.iter().map(|(k, n)| format!("{n} {k}")).collect();
     let seconds = start.elapsed().as_secs_f64();
     println!(
-        "{name}: {} cases ({}), seed {seed}, {seconds:.1} s: {differences} differences",
-        kinds.values().sum::<u64>(),
+        "{name}: {run} cases, and sheets and builds once more in version 2 ({}), seed {seed}, {seconds:.1} s: {differences} differences",
         counts.join(", ")
     );
     // so many cases reach every number, or the cases are not what they were

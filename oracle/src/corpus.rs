@@ -1,4 +1,5 @@
 //! Cases in the bytes that robust.c takes apart.
+use crate::layout::Version;
 use crate::side::Case;
 
 fn put<T: Into<u64> + Copy>(out: &mut Vec<u8>, values: &[T], width: usize) {
@@ -18,12 +19,12 @@ pub fn bytes(case: &Case, text: usize) -> Option<Vec<u8>> {
             put(&mut out, &[(text as i64 + room).clamp(0, 65535) as u16], 2);
             out.extend_from_slice(bytes);
         }
-        Case::Build { alignment, tables, rooms } => {
+        Case::Build { version, alignment, tables, rooms } => {
             let n: Vec<usize> = tables.iter().map(|t| t.len()).collect();
             if !fits(&n) || !fits(rooms) {
                 return None;
             }
-            out.push(1);
+            out.push(if *version == Version::One { 1 } else { 6 });
             put(&mut out, &[*alignment], 4);
             put(&mut out, &lens(&n), 2);
             put(&mut out, &lens(rooms), 2);

@@ -151,8 +151,88 @@ pub fn sheets() -> Vec<(&'static str, Vec<u8>, &'static str)> {
         ),
         ("a cut sheet", worked().sheet()[..24].to_vec(), "sheet 2 24\n"),
         ("a byte more", [worked().sheet(), vec![0]].concat(), "sheet 3 223\n"),
-        ("another version", vec![2], "sheet 1 0\n"),
+        ("another version", vec![3], "sheet 1 0\n"),
         ("a data buffer 65535", set(GEOMETRIES, geometry::BUFFER, NONE), "sheet 5 124\n"),
+    ]
+}
+
+/// The worked sheet in version 2, changed.
+fn wide(change: impl FnOnce(&mut Raw)) -> Vec<u8> {
+    with(|r| {
+        r.version = 2;
+        change(r);
+    })
+}
+
+/// Three vertices of 12 bytes from `first` on, in a buffer of `size` bytes.
+fn vertices(first: u64, size: u64) -> Vec<u8> {
+    wide(|r| {
+        r.set(GEOMETRIES, 0, geometry::FIRST, first);
+        r.set(BUFFERS, 0, buffer::SIZE, size);
+    })
+}
+
+/// `count` boxes of 24 bytes at `first`, in a buffer of `size` bytes.
+fn far_boxes(count: u64, first: u64, size: u64) -> Vec<u8> {
+    wide(|r| {
+        let boxes = Raw::from_sheet(&boxes(count)).expect("a whole sheet");
+        r.sections = boxes.sections;
+        r.set(GEOMETRIES, 0, geometry::FIRST, first);
+        r.set(BUFFERS, 0, buffer::SIZE, size);
+    })
+}
+
+/// What request 6 says of sheets; these are not recorded, since of an offset from 2^32 on the Rust says nothing.
+fn wide_sheets() -> Vec<(&'static str, Vec<u8>, &'static str)> {
+    let (passes, far) = ("build 0 0 0 0 0 0\n", 1 << 32);
+    vec![
+        (
+            "worked sheet in version 2",
+            wide(|_| {}),
+            "build 0 0 0 0 0 0\nscratch 512\nblas 0 0\ntlas 0 0 0 64\nsubmit 0 0 0 0\nnext 2\n",
+        ),
+        ("version 0", with(|r| r.version = 0), "sheet 1 0\n"),
+        ("version 3", with(|r| r.version = 3), "sheet 1 0\n"),
+        ("nothing but version 2", vec![2], "sheet 2 1\n"),
+        ("a byte more in version 2", [wide(|_| {}), vec![0]].concat(), "sheet 3 227\n"),
+        ("a data buffer 65535 in version 2", wide(|r| r.set(GEOMETRIES, 0, geometry::BUFFER, NONE)), "sheet 5 128\n"),
+        ("vertices from 2^32 on that fit", vertices(far, (far + 3) * 12), passes),
+        ("a byte less", vertices(far, (far + 3) * 12 - 1), "build 23 0 0 51539607552 36 51539607587\n"),
+        ("vertices from 2^64 - 1 on", vertices(TOP, TOP), "build 23 0 0 18446744073709551615 36 18446744073709551615\n"),
+        ("a box at 2^32 that fits", far_boxes(1, far, far + 24), passes),
+        ("a byte less of boxes", far_boxes(1, far, far + 23), "build 23 0 0 4294967296 24 4294967319\n"),
+        ("a box at 2^32 + 4", far_boxes(1, far + 4, TOP), "build 32 0 0 0 0 0\n"),
+        ("a box whose end is 2^64", far_boxes(1, TOP - 23, TOP), "build 23 0 0 18446744073709551592 24 18446744073709551615\n"),
+        ("eight bytes before it", far_boxes(1, TOP - 31, TOP), passes),
+        ("178,956,971 boxes of 24 at 2^32", far_boxes(178_956_971, far, TOP), "build 26 0 0 4294967304 178956971 24\n"),
+    ]
+}
+
+/// What request 6 says of converters: to which version, the sheet, number and place, and the sheet that is written.
+type Conversion = (&'static str, Version, Vec<u8>, [u64; 2], Vec<u8>);
+
+fn conversions() -> Vec<Conversion> {
+    use Version::{One, Two};
+    let far = |firsts: &'static [u64]| {
+        wide(|r| {
+            r.sections[GEOMETRIES] = firsts.iter().flat_map(|&f| [0, 3, f, 12, 0, 1, 0, NONE, 0, 0, 0, 0, NONE, 0, 0]).collect();
+            r.set(ENTRIES, 0, entry::COUNT, firsts.len() as u64);
+        })
+    };
+    let cut = |sheet: Vec<u8>| sheet[..24].to_vec();
+    let (one, two, nothing) = (worked().sheet(), wide(|_| {}), Vec::new);
+    vec![
+        ("1 to 2", Two, one.clone(), [0, 0], two.clone()),
+        ("2 to 1", One, two.clone(), [0, 0], one.clone()),
+        ("the other way's version: 2 to 2", Two, two.clone(), [1, 0], nothing()),
+        ("the other way's version: 1 to 1", One, one.clone(), [1, 0], nothing()),
+        ("the other way's version, cut", One, cut(one.clone()), [1, 0], nothing()),
+        ("neither version", One, vec![3], [1, 0], nothing()),
+        ("nothing", Two, nothing(), [2, 0], nothing()),
+        ("the reader's", Two, cut(one.clone()), [2, 24], nothing()),
+        ("2^32 - 1 fits", One, far(&[4_294_967_295]), [0, 0], with(|r| r.set(GEOMETRIES, 0, geometry::FIRST, 4_294_967_295))),
+        ("2^32 doesn't", One, far(&[4_294_967_296]), [47, 112], nothing()),
+        ("the second doesn't", One, far(&[7, 4_294_967_296, TOP]), [47, 160], nothing()),
     ]
 }
 
@@ -188,7 +268,7 @@ pub fn run(other: Option<(&mut dyn Side, &str)>) -> bool {
     let mut bad = 0;
     let mut count = 0;
     for (side, name) in sides {
-        for (what, sheet, expected) in sheets() {
+        for (what, sheet, expected) in sheets().into_iter().chain(wide_sheets()) {
             let mut out = vec![0; 1 << 16];
             let answer = side.report(&sheet, &mut out);
             let text = String::from_utf8_lossy(&out[..answer[1] as usize]).into_owned();
@@ -196,6 +276,16 @@ pub fn run(other: Option<(&mut dyn Side, &str)>) -> bool {
             if !text.starts_with(expected) {
                 bad += 1;
                 println!("{name}: {what}: expected\n{expected}got\n{text}");
+            }
+        }
+        for (what, to, sheet, expected, written) in conversions() {
+            let mut out = vec![7; 1 << 10];
+            let [number, place, n] = side.convert(to, &sheet, &mut out);
+            let whole = [&written[..], &vec![7; out.len() - written.len()]].concat();
+            count += 1;
+            if ([number, place], n as usize) != (expected, written.len()) || out != whole {
+                bad += 1;
+                println!("{name}: {what}: expected {expected:?} and {} bytes, got {number}, {place} and {n}", written.len());
             }
         }
         for (what, case, expected) in submissions() {

@@ -723,7 +723,7 @@ fn spoil(r: &mut Rng, raw: &Raw) -> Vec<u8> {
         // a count
         4 => {
             let s = r.index(9);
-            let at: usize = 13 + (0..s).map(|s| 2 + raw.count(s) * SIZES[s]).sum::<usize>();
+            let at = raw.place(s);
             let n = raw.count(s) as u64;
             let n = r.pick(&[0, 1, n + 1, n.saturating_sub(1), LIMITS[s] as u64, LIMITS[s] as u64 + 1, 65535]);
             bytes[at..at + 2].copy_from_slice(&(n as u16).to_le_bytes());
@@ -747,10 +747,81 @@ fn spoil(r: &mut Rng, raw: &Raw) -> Vec<u8> {
     bytes
 }
 
-fn sheet(r: &mut Rng) -> Case {
-    let raw = if r.chance(3) { at_the_limit(r) } else { tables(r) };
-    let bytes = if r.chance(20) { spoil(r, &raw) } else { raw.sheet() };
+/// Where a geometry's data end; and the last offset with which they end at 2^64 - 1 or before, of boxes in eights.
+fn end_and_last(raw: &Raw, g: usize) -> (u128, u64) {
+    let get = |field: usize| u128::from(raw.get(GEOMETRIES, g, field));
+    let (first, count, stride) = (get(geometry::FIRST), get(geometry::COUNT), get(geometry::STRIDE));
+    let top = u128::from(TOP);
+    if boxes_at(raw, g) {
+        (first + count * stride, top.saturating_sub(count * stride) as u64 & !7)
+    } else {
+        ((first + count).saturating_mul(stride), (top / stride.max(1)).saturating_sub(count) as u64)
+    }
+}
+
+fn boxes_at(raw: &Raw, g: usize) -> bool {
+    raw.count(ENTRIES) > 0 && raw.get(ENTRIES, entry_of(raw, g), entry::KIND) == 1
+}
+
+/// An offset from 2^32 on or just below it, and a buffer that mostly has what it needs, to the byte.
+fn lift(r: &mut Rng, raw: &mut Raw, g: usize) {
+    let (old, any, (_, last)) = (raw.get(GEOMETRIES, g, geometry::FIRST), r.u64(), end_and_last(raw, g));
+    let near = [1 << 32, 1 << 32, (1 << 32) + 8, TOP32, old.wrapping_add(1 << 32), old | 1 << 32];
+    let far = [1 << 33, 1 << 40, 1 << 63, any, any >> 20, TOP, TOP - 7, last, last, last.saturating_add(1), last.saturating_add(8)];
+    let first = if r.chance(50) { r.pick(&near) } else { r.pick(&far) };
+    let first = if boxes_at(raw, g) && r.chance(85) { first & !7 } else { first };
+    let cut = {
+        raw.set(GEOMETRIES, g, geometry::FIRST, first & TOP32);
+        end_and_last(raw, g).0
+    };
+    raw.set(GEOMETRIES, g, geometry::FIRST, first);
+    let id = raw.get(GEOMETRIES, g, geometry::BUFFER) as usize;
+    if id >= raw.count(BUFFERS) {
+        return;
+    }
+    let (size, need) = (u128::from(raw.get(BUFFERS, id, buffer::SIZE)), end_and_last(raw, g).0);
+    let size = match r.below(20) {
+        0..13 => size.max(need),
+        13..15 => need.saturating_sub(1),
+        15 => u128::from(TOP),
+        // what an offset that is cut to 32 bits would need
+        16..18 => cut,
+        _ => size,
+    };
+    raw.set(BUFFERS, id, buffer::SIZE, size.min(TOP.into()) as u64);
+}
+
+/// The same as version 2; in half of them one geometry or all have offsets from 2^32 on.
+fn widened(r: &mut Rng, mut raw: Raw) -> Raw {
+    raw.version = 2;
+    let n = raw.count(GEOMETRIES);
+    if n > 0 && r.chance(50) {
+        let (one, all) = (r.index(n), r.chance(30));
+        (0..n).filter(|&g| all || g == one).for_each(|g| lift(r, &mut raw, g));
+    }
+    raw
+}
+
+fn sheet_of(r: &mut Rng, raw: &Raw) -> Case {
+    let bytes = if r.chance(20) { spoil(r, raw) } else { raw.sheet() };
     Case::Sheet { bytes, room: r.pick(&[0, 0, 0, 1, 7, 100, -1, -1, -3, -1000]) }
+}
+
+/// In version 1 and, drawn after it, in version 2, there with another version byte or none too.
+fn sheet(r: &mut Rng) -> Vec<Case> {
+    let raw = if r.chance(3) { at_the_limit(r) } else { tables(r) };
+    let narrow = sheet_of(r, &raw);
+    let wide = widened(r, raw);
+    let mut wide = sheet_of(r, &wide);
+    if let Case::Sheet { bytes, .. } = &mut wide {
+        let any = r.byte() as u8;
+        match bytes.first_mut() {
+            Some(version) if r.chance(3) => *version = r.pick(&[0, 1, 1, 3, 3, 4, 255, any]),
+            Some(_) if r.below(500) == 0 => bytes.clear(),
+            _ => {}
+        }
+    }
+    vec![narrow, wide]
 }
 
 /// How many elements of each output tables like these need, if they are accepted.
@@ -763,7 +834,7 @@ pub fn rooms(raw: &Raw) -> [usize; 7] {
     });
     let mut ranges = 0;
     for g in 0..raw.count(GEOMETRIES) {
-        let boxes = raw.count(ENTRIES) > 0 && raw.get(ENTRIES, entry_of(raw, g), entry::KIND) == 1;
+        let boxes = boxes_at(raw, g);
         let given = |f: usize| usize::from(!boxes && raw.get(GEOMETRIES, g, f) != NONE);
         ranges += 1 + given(geometry::INDEX_BUFFER) + given(geometry::TRANSFORM_BUFFER);
     }
@@ -771,9 +842,17 @@ pub fn rooms(raw: &Raw) -> [usize; 7] {
     [entries, packages, 2 * packages, 64 * present, 3 * ranges, compactable, entries + 2 * packages + present]
 }
 
-fn build(r: &mut Rng) -> Case {
+/// With geometries of version 1 and, drawn after it, of version 2.
+fn build(r: &mut Rng) -> Vec<Case> {
     let raw = if r.chance(3) { at_the_limit(r) } else { tables(r) };
-    let mut rooms = rooms(&raw);
+    let narrow = build_of(r, &raw);
+    let wide = widened(r, raw);
+    vec![narrow, build_of(r, &wide)]
+}
+
+fn build_of(r: &mut Rng, raw: &Raw) -> Case {
+    let version = raw.laid_out();
+    let mut rooms = rooms(raw);
     match r.below(10) {
         0 | 1 => {
             let k = r.index(7);
@@ -788,7 +867,7 @@ fn build(r: &mut Rng) -> Case {
     if r.chance(3) {
         // a part record
         let s = r.index(8);
-        let n = r.from(1, SIZES[s] as u64 - 1);
+        let n = r.from(1, version.size(s) as u64 - 1);
         for _ in 0..n {
             tables[s].push(r.byte() as u8);
         }
@@ -805,7 +884,7 @@ fn build(r: &mut Rng) -> Case {
         let n = r.index(tables[s].len() + 1);
         tables[s].truncate(n);
     }
-    Case::Build { alignment: raw.alignment as u32, tables, rooms }
+    Case::Build { version, alignment: raw.alignment as u32, tables, rooms }
 }
 
 // ---- submissions ------------------------------------------------------------------------------------------------------
@@ -1196,15 +1275,20 @@ fn groups(r: &mut Rng) -> Case {
     Case::Groups { bytes, room: room.min(40_000) as usize }
 }
 
-/// Case `index` of a seed.
-pub fn case(seed: u64, index: u64) -> Case {
+/// Case `index` of a seed; a sheet or a build is followed by the same in version 2.
+pub fn cases(seed: u64, index: u64) -> Vec<Case> {
     let r = &mut Rng::new(seed, index);
     match r.below(100) {
         0..40 => sheet(r),
         40..68 => build(r),
-        68..70 => many(r),
-        70..95 => submission(r),
-        95..98 => append(r),
-        _ => groups(r),
+        68..70 => vec![many(r)],
+        70..95 => vec![submission(r)],
+        95..98 => vec![append(r)],
+        _ => vec![groups(r)],
     }
+}
+
+/// The first of them: a sheet or a build of version 1.
+pub fn case(seed: u64, index: u64) -> Case {
+    cases(seed, index).swap_remove(0)
 }

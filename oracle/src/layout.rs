@@ -1,7 +1,55 @@
 //! The sheet's sections as lists of fields, and a sheet or a build's tables as plain numbers in those fields.
 
+/// Of a sheet, or of a build's tables.
+#[derive(Clone, Copy, Debug, PartialEq, Eq)]
+pub enum Version {
+    One,
+    Two,
+}
+
+impl Version {
+    /// None: "neither 1 nor 2".
+    pub fn of(byte: u64) -> Option<Version> {
+        match byte {
+            1 => Some(Version::One),
+            2 => Some(Version::Two),
+            _ => None,
+        }
+    }
+
+    pub fn number(self) -> u64 {
+        match self {
+            Version::One => 1,
+            Version::Two => 2,
+        }
+    }
+
+    pub fn other(self) -> Version {
+        match self {
+            Version::One => Version::Two,
+            Version::Two => Version::One,
+        }
+    }
+
+    /// "version 2 of the sheet has the primitive offset as u64, all else the same, and the shared geometry record widens with it".
+    pub fn widths(self, section: usize) -> &'static [usize] {
+        match (self, section) {
+            (Version::Two, GEOMETRIES) => &[1, 4, 8, 8, 2, 1, 1, 2, 1, 4, 1, 4, 2, 1, 8],
+            _ => WIDTHS[section],
+        }
+    }
+
+    pub fn size(self, section: usize) -> usize {
+        match (self, section) {
+            (Version::Two, GEOMETRIES) => 48,
+            _ => SIZES[section],
+        }
+    }
+}
+
 pub const SECTIONS: [&str; 9] = ["buffer", "blas", "declared", "tlas", "entry", "geometry", "package", "slot", "action"];
 pub const LIMITS: [usize; 9] = [256, 128, 512, 32, 64, 256, 32, 512, 64];
+/// Sizes and widths of version 1, and but for a geometry's of version 2.
 pub const SIZES: [usize; 9] = [9, 28, 18, 22, 5, 44, 4, 56, 3];
 pub const WIDTHS: [&[usize]; 9] = [
     &[8, 1],
@@ -111,6 +159,11 @@ pub struct Raw {
 }
 
 impl Raw {
+    /// What is of neither version, and so refused at its first byte, is laid out as version 1.
+    pub fn laid_out(&self) -> Version {
+        Version::of(self.version).unwrap_or(Version::One)
+    }
+
     pub fn count(&self, section: usize) -> usize {
         self.sections[section].len() / WIDTHS[section].len()
     }
@@ -145,15 +198,21 @@ impl Raw {
 
     /// The section's records as bytes.
     pub fn table(&self, section: usize) -> Vec<u8> {
-        let mut out = Vec::with_capacity(self.count(section) * SIZES[section]);
+        let (widths, size) = (self.laid_out().widths(section), self.laid_out().size(section));
+        let mut out = Vec::with_capacity(self.count(section) * size);
         for (i, &v) in self.sections[section].iter().enumerate() {
-            put_number(&mut out, v, WIDTHS[section][i % WIDTHS[section].len()]);
+            put_number(&mut out, v, widths[i % widths.len()]);
         }
         out
     }
 
     pub fn tables(&self) -> [Vec<u8>; 8] {
         std::array::from_fn(|s| self.table(s))
+    }
+
+    /// Where a section's count stands in its sheet.
+    pub fn place(&self, section: usize) -> usize {
+        13 + (0..section).map(|s| 2 + self.count(s) * self.laid_out().size(s)).sum::<usize>()
     }
 
     pub fn sheet(&self) -> Vec<u8> {
@@ -168,12 +227,13 @@ impl Raw {
         out
     }
 
-    /// The whole records of a table.
+    /// The whole records of a table, laid out as this version.
     pub fn take_table(&mut self, section: usize, table: &[u8]) {
+        let version = self.laid_out();
         self.sections[section].clear();
-        for r in table.chunks_exact(SIZES[section]) {
+        for r in table.chunks_exact(version.size(section)) {
             let mut at = 0;
-            for &w in WIDTHS[section] {
+            for &w in version.widths(section) {
                 self.sections[section].push(number_at(r, at, w));
                 at += w;
             }
@@ -191,8 +251,9 @@ impl Raw {
         for s in 0..9 {
             let n = number_at(sheet.get(at..at + 2)?, 0, 2) as usize;
             at += 2;
-            raw.take_table(s, sheet.get(at..at + n * SIZES[s])?);
-            at += n * SIZES[s];
+            let size = raw.laid_out().size(s);
+            raw.take_table(s, sheet.get(at..at + n * size)?);
+            at += n * size;
         }
         (at == sheet.len()).then_some(raw)
     }

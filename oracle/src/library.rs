@@ -1,4 +1,5 @@
 //! The static library, through the Rust binding.
+use crate::layout::Version;
 use crate::side::{Lent, Outputs, Side};
 use zakvind::raw;
 
@@ -39,6 +40,35 @@ fn one_after_another(
     }
 }
 
+fn convert(to: Version, sheet: &[u8], out: &mut [u8]) -> raw::Written {
+    match to {
+        Version::One => raw::to_version_1(sheet, out),
+        Version::Two => raw::to_version_2(sheet, out),
+    }
+}
+
+fn text(sheet: &[u8]) -> Vec<u8> {
+    let mut out = vec![0; 1 << 13];
+    let a = raw::report(sheet, &mut out);
+    assert_eq!(a.number, 0, "8192 bytes have room for every text");
+    out.truncate(a.written as usize);
+    out
+}
+
+/// "Going there and back gives the same bytes", and a converted sheet says the same as before: it is read, with as many records in each
+/// section, and its build and its submission answer the same lines.
+fn there_and_back(to: Version, sheet: &[u8], converted: &[u8]) {
+    let mut back = vec![0; sheet.len()];
+    let a = convert(to.other(), converted, &mut back);
+    assert_eq!((a.number, a.written), (0, sheet.len() as u64), "there and back");
+    assert!(back == sheet, "other bytes there and back");
+    let (before, after) = (raw::read_sheet(sheet), raw::read_sheet(converted));
+    assert_eq!((after.number, after.version), (0, to.number()), "a converted sheet is read");
+    assert_eq!((before.alignment, before.counter), (after.alignment, after.counter));
+    assert_eq!(before.sections.map(|s| s.count), after.sections.map(|s| s.count));
+    assert!(text(sheet) == text(converted), "another text of a converted sheet");
+}
+
 impl Side for Library {
     fn read_sheet(&mut self, sheet: &[u8]) -> [u64; 23] {
         let a = raw::read_sheet(sheet);
@@ -50,7 +80,7 @@ impl Side for Library {
         answer
     }
 
-    fn build(&mut self, alignment: u32, tables: [&[u8]; 8], out: Outputs) -> [u64; 15] {
+    fn build(&mut self, version: Version, alignment: u32, tables: [&[u8]; 8], out: Outputs) -> [u64; 15] {
         let out = zakvind::LentOutputs {
             blas_offsets: out.blas_offsets,
             tlas_offsets: out.tlas_offsets,
@@ -60,7 +90,10 @@ impl Side for Library {
             compactable: out.compactable,
             lists: out.lists,
         };
-        let a = raw::build(alignment, tables, out);
+        let a = match version {
+            Version::One => raw::build(alignment, tables, out),
+            Version::Two => raw::build_wide(alignment, tables, out),
+        };
         let mut answer = [0; 15];
         answer[..8].copy_from_slice(&[
             a.number,
@@ -120,6 +153,14 @@ impl Side for Library {
 
     fn write(&mut self, sheet: &[u8], out: &mut [u8]) -> [u64; 3] {
         let a = raw::write_sheet(sheet, out);
+        [a.number, a.place, a.written]
+    }
+
+    fn convert(&mut self, to: Version, sheet: &[u8], out: &mut [u8]) -> [u64; 3] {
+        let a = convert(to, sheet, out);
+        if a.number == 0 {
+            there_and_back(to, sheet, &out[..a.written as usize]);
+        }
         [a.number, a.place, a.written]
     }
 

@@ -1,7 +1,9 @@
 //! Compares Zakvind with the published Rust. See README.md.
+mod above;
 mod canonical;
 mod case_file;
 mod compare;
+mod convert;
 mod corpus;
 mod examples;
 mod generate;
@@ -117,7 +119,7 @@ fn run() {
         // each fault of the second reading must be found
         Some("faults") => {
             let Some(count) = word(1).and_then(|w| w.parse().ok()) else { usage() };
-            let all = reading::FAULTS + groups::FAULTS + many::FAULTS;
+            let all = reading::FAULTS + groups::FAULTS + many::FAULTS + convert::FAULTS;
             let missed: Vec<u32> = (1..=all)
                 .filter(|&fault| {
                     let name = format!("fault {fault}");
@@ -139,12 +141,11 @@ fn run() {
                 reading::FAULTS
             );
         }
-        // inputs of robust.c: N in one file, each after its length, and the first short ones as files
+        // inputs of robust.c: those of N cases in one file, each after its length, and the first short ones as files
         Some("corpus") => {
             let (Some(count), Some(folder)) = (word(1).and_then(|w| w.parse::<u64>().ok()), word(2)) else { usage() };
             let (mut all, mut files) = (Vec::new(), 0);
-            for index in 0..count {
-                let case = generate::case(21, index);
+            for case in (0..count).flat_map(|index| generate::cases(21, index)) {
                 let text = match &case {
                     side::Case::Sheet { bytes, .. } => rust.text(bytes).len(),
                     _ => 0,
@@ -154,7 +155,7 @@ fn run() {
                 all.extend_from_slice(&bytes);
                 if bytes.len() < 4096 && files < 2000 {
                     files += 1;
-                    let _ = std::fs::write(format!("{folder}/inputs/{index}"), &bytes);
+                    let _ = std::fs::write(format!("{folder}/inputs/{files}"), &bytes);
                 }
             }
             if let Err(e) = std::fs::write(format!("{folder}/all"), all) {
@@ -194,8 +195,9 @@ fn run() {
         Some("texts") => {
             let Some(count) = word(1).and_then(|w| w.parse().ok()) else { usage() };
             for index in 0..count {
-                let case = generate::case(1, index);
-                assert_eq!(case_file::read(&case_file::write(&case)).as_ref(), Ok(&case), "case {index}");
+                for case in generate::cases(1, index) {
+                    assert_eq!(case_file::read(&case_file::write(&case)).as_ref(), Ok(&case), "case {index}");
+                }
             }
             println!("texts: {count} cases read as they were written");
         }

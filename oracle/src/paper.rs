@@ -2,7 +2,7 @@
 //! allocation, so that it is also the Rust reader that times are taken of. At the end the place of a 37, by its request.
 use published::input::{Blas, Buffer, Declared, Entry, Geometry, Input, Package, Slot, Tlas};
 
-use crate::layout::{LIMITS, SIZES};
+use crate::layout::{Version, GEOMETRIES, LIMITS, SIZES};
 
 #[derive(Clone, Copy, Debug, PartialEq, Eq)]
 pub struct Refused {
@@ -13,6 +13,7 @@ pub struct Refused {
 type Judged<T> = Result<T, Refused>;
 
 struct Reader<'a> {
+    version: Version,
     bytes: &'a [u8],
     at: usize,
 }
@@ -126,7 +127,10 @@ impl Reader<'_> {
     fn geometry(&mut self, triangles: bool) -> Judged<()> {
         self.u8()?;
         self.u32()?;
-        self.u32()?;
+        match self.version {
+            Version::One => self.u32().map(u64::from),
+            Version::Two => self.u64(),
+        }?;
         self.u64()?;
         let buffer = self.u16()?;
         self.good(buffer != 65535, 2)?;
@@ -171,7 +175,7 @@ impl Reader<'_> {
 /// An accepted sheet: the first record's place and the number of records of each section.
 #[derive(Clone, Copy, Debug)]
 pub struct Places {
-    pub version: u8,
+    pub version: Version,
     pub alignment: u32,
     pub counter: u64,
     pub sections: [(usize, usize); 9],
@@ -180,7 +184,7 @@ pub struct Places {
 impl Places {
     pub fn section<'a>(&self, sheet: &'a [u8], section: usize) -> &'a [u8] {
         let (start, count) = self.sections[section];
-        &sheet[start..start + count * SIZES[section]]
+        &sheet[start..start + count * self.version.size(section)]
     }
 
     pub fn tables<'a>(&self, sheet: &'a [u8]) -> [&'a [u8]; 8] {
@@ -195,11 +199,9 @@ fn entry_at(entries: &[u8], i: usize) -> (bool, usize) {
 }
 
 pub fn read_sheet(bytes: &[u8]) -> Judged<Places> {
-    let r = &mut Reader { bytes, at: 0 };
-    let version = r.u8()?;
-    if version != 1 {
-        return Err(Refused { number: 1, place: 0 });
-    }
+    let r = &mut Reader { version: Version::One, bytes, at: 0 };
+    let version = Version::of(r.u8()?.into()).ok_or(Refused { number: 1, place: 0 })?;
+    r.version = version;
     let alignment = r.u32()?;
     r.good(alignment != 0, 4)?;
     let counter = r.u64()?;
@@ -242,8 +244,9 @@ fn drawn_by(section: usize, before: &[u8]) -> usize {
 }
 
 /// A lent table, after the table of the section before: number and record of its first refusal.
-pub fn judge_table(section: usize, before: &[u8], table: &[u8]) -> Result<(), (u64, u64)> {
-    let n = table.len() / SIZES[section];
+pub fn judge_table(version: Version, section: usize, before: &[u8], table: &[u8]) -> Result<(), (u64, u64)> {
+    let size = version.size(section);
+    let n = table.len() / size;
     if n > LIMITS[section] {
         return Err((4, 0));
     }
@@ -254,8 +257,8 @@ pub fn judge_table(section: usize, before: &[u8], table: &[u8]) -> Result<(), (u
         let (triangles, k) = if section == 5 { entry_at(before, i) } else { (true, 0) };
         std::iter::repeat_n(triangles, k)
     });
-    for (i, bytes) in table.chunks_exact(SIZES[section]).enumerate() {
-        let r = &mut Reader { bytes, at: 0 };
+    for (i, bytes) in table.chunks_exact(size).enumerate() {
+        let r = &mut Reader { version, bytes, at: 0 };
         let judged = match section {
             0 => r.buffer(),
             1 => r.blas(),
@@ -271,20 +274,20 @@ pub fn judge_table(section: usize, before: &[u8], table: &[u8]) -> Result<(), (u
         }
     }
     // bytes of a part record are a value of no field
-    if table.len() % SIZES[section] != 0 {
+    if table.len() % size != 0 {
         return Err((5, n as u64));
     }
     Ok(())
 }
 
 /// A library build's tables: number, section and record of the first refusal.
-pub fn judge_tables(alignment: u32, tables: [&[u8]; 8]) -> Result<(), (u64, (u64, u64))> {
+pub fn judge_tables(version: Version, alignment: u32, tables: [&[u8]; 8]) -> Result<(), (u64, (u64, u64))> {
     if alignment == 0 {
         return Err((5, (0, 0)));
     }
     for s in 0..8 {
         let before = if s == 0 { &[][..] } else { tables[s - 1] };
-        judge_table(s, before, tables[s]).map_err(|(number, record)| (number, (s as u64 + 1, record)))?;
+        judge_table(version, s, before, tables[s]).map_err(|(number, record)| (number, (s as u64 + 1, record)))?;
     }
     Ok(())
 }
@@ -336,20 +339,24 @@ fn declared_of(r: &[u8]) -> Declared {
     }
 }
 
-fn geometry_of(r: &[u8]) -> Geometry {
+fn geometry_of(version: Version, r: &[u8]) -> Geometry {
+    let (first, rest) = match version {
+        Version::One => (u32_at(r, 5).into(), &r[9..]),
+        Version::Two => (u64_at(r, 5), &r[13..]),
+    };
     Geometry {
         flags: r[0],
         count: u32_at(r, 1),
-        first: u32_at(r, 5),
-        stride: u64_at(r, 9),
-        buffer: u16_at(r, 17),
-        vertex_format: r[19],
-        index_format: r[20],
-        index_buffer: id_or_none(u16_at(r, 21)),
-        index_count: (r[23] == 1).then_some(u32_at(r, 24)),
-        first_index: (r[28] == 1).then_some(u32_at(r, 29)),
-        transform_buffer: id_or_none(u16_at(r, 33)),
-        transform_offset: (r[35] == 1).then_some(u64_at(r, 36)),
+        first,
+        stride: u64_at(rest, 0),
+        buffer: u16_at(rest, 8),
+        vertex_format: rest[10],
+        index_format: rest[11],
+        index_buffer: id_or_none(u16_at(rest, 12)),
+        index_count: (rest[14] == 1).then_some(u32_at(rest, 15)),
+        first_index: (rest[19] == 1).then_some(u32_at(rest, 20)),
+        transform_buffer: id_or_none(u16_at(rest, 24)),
+        transform_offset: (rest[26] == 1).then_some(u64_at(rest, 27)),
     }
 }
 
@@ -364,17 +371,17 @@ pub fn slot_of(r: &[u8]) -> Slot {
 }
 
 /// The entries with their geometries, and the packages with their slots.
-pub fn drawn(entries: &[u8], geometries: &[u8], packages: &[u8], slots: &[u8]) -> (Vec<Entry>, Vec<Package>) {
-    let mut given = geometries.chunks_exact(SIZES[5]).map(geometry_of);
+pub fn drawn(version: Version, entries: &[u8], geometries: &[u8], packages: &[u8], slots: &[u8]) -> (Vec<Entry>, Vec<Package>) {
+    let mut given = geometries.chunks_exact(version.size(GEOMETRIES)).map(|r| geometry_of(version, r));
     let mut placed = slots.chunks_exact(SIZES[7]).map(|r| (r[0] == 1).then(|| slot_of(&r[1..])));
     let entry = |r: &[u8]| Entry { blas: u16_at(r, 0), kind: r[2], geometries: given.by_ref().take(u16_at(r, 3).into()).collect() };
     let package = |r: &[u8]| Package { tlas: u16_at(r, 0), slots: placed.by_ref().take(u16_at(r, 2).into()).collect() };
     (entries.chunks_exact(SIZES[4]).map(entry).collect(), packages.chunks_exact(SIZES[6]).map(package).collect())
 }
 
-pub fn input(alignment: u32, counter: u64, tables: [&[u8]; 8]) -> Input {
+pub fn input(version: Version, alignment: u32, counter: u64, tables: [&[u8]; 8]) -> Input {
     let [buffers, blases, declared, tlases, entries, geometries, packages, slots] = tables;
-    let (entries, packages) = drawn(entries, geometries, packages, slots);
+    let (entries, packages) = drawn(version, entries, geometries, packages, slots);
     Input {
         alignment,
         counter,

@@ -1,7 +1,7 @@
 //! A second reading of the paper, apart from the Rust and from the harness's own judging: by a table of fields, over plain
 //! numbers. It is no oracle; it finds places where paper and Rust differ, and tries the comparison itself: with `fault` k it
 //! has one thing wrong, which a comparison must find.
-use crate::layout::{blas, buffer, declared, entry, geometry, number_at, package, slot, tlas, LIMITS, NONE, SIZES, WIDTHS};
+use crate::layout::{blas, buffer, declared, entry, geometry, number_at, package, slot, tlas, Raw, Version, LIMITS, NONE, SIZES};
 use crate::side::{Lent, Outputs, Side};
 
 #[derive(Default)]
@@ -9,32 +9,45 @@ pub struct Reading {
     pub fault: u32,
 }
 
-/// How many faults there are, from 1 on; those of opened groups follow, then those of many appended instances.
-pub const FAULTS: u32 = 71;
+/// How many faults there are, from 1 on; those of opened groups follow, then those of many appended instances, then those of converted
+/// sheets.
+pub const FAULTS: u32 = 82;
 
 const TOP: u64 = u64::MAX;
 const TOP32: u64 = u32::MAX as u64;
 
 /// A record's fields.
 struct Fields<'a> {
-    section: usize,
+    widths: &'static [usize],
     bytes: &'a [u8],
 }
 
 impl Fields<'_> {
     fn get(&self, field: usize) -> u64 {
-        let at: usize = WIDTHS[self.section][..field].iter().sum();
-        number_at(self.bytes, at, WIDTHS[self.section][field])
+        let at: usize = self.widths[..field].iter().sum();
+        number_at(self.bytes, at, self.widths[field])
     }
 }
 
+fn record_of(version: Version, section: usize, table: &[u8], i: u64) -> Fields<'_> {
+    let size = version.size(section);
+    let at = i as usize * size;
+    Fields { widths: version.widths(section), bytes: &table[at..at + size] }
+}
+
+fn count_of(version: Version, section: usize, table: &[u8]) -> u64 {
+    (table.len() / version.size(section)) as u64
+}
+
+/// Of a section that is the same in either version: all but section 6.
 fn record(section: usize, table: &[u8], i: u64) -> Fields<'_> {
-    let at = i as usize * SIZES[section];
-    Fields { section, bytes: &table[at..at + SIZES[section]] }
+    assert_ne!(section, 5);
+    record_of(Version::One, section, table, i)
 }
 
 fn count(section: usize, table: &[u8]) -> u64 {
-    (table.len() / SIZES[section]) as u64
+    assert_ne!(section, 5);
+    count_of(Version::One, section, table)
 }
 
 /// What is known of a record before a field: the Blases before it, whether its kind is boxes, the fields read so far.
@@ -80,9 +93,17 @@ impl Reading {
     }
 
     /// The fields of a record from `at` on, until one isn't whole (2) or doesn't fit (5): number and place.
-    fn judge_record(&self, section: usize, bytes: &[u8], mut at: usize, blases: &[u8], boxes: bool) -> Result<(), (u64, u64)> {
+    fn judge_record(
+        &self,
+        version: Version,
+        section: usize,
+        bytes: &[u8],
+        mut at: usize,
+        blases: &[u8],
+        boxes: bool,
+    ) -> Result<(), (u64, u64)> {
         let mut seen = Seen { blases, boxes, read: Vec::new() };
-        for (field, &width) in WIDTHS[section].iter().enumerate() {
+        for (field, &width) in version.widths(section).iter().enumerate() {
             if bytes.len() < at + width {
                 return Err((2, at as u64));
             }
@@ -121,8 +142,14 @@ impl Reading {
             |at: usize, width: usize| if sheet.len() < at + width { Err((2, at as u64)) } else { Ok(number_at(sheet, at, width)) };
         let mut answer = [0; 23];
         answer[2] = whole(0, 1)?;
-        if answer[2] != 1 {
-            return Err((1, 0));
+        let version = match answer[2] {
+            1 => Version::One,
+            2 if !self.is(73) => Version::Two,
+            3 if self.is(72) => Version::One,
+            _ => return Err((1, 0)),
+        };
+        if self.is(81) {
+            answer[2] = 1;
         }
         answer[3] = whole(1, 4)?;
         if answer[3] == 0 {
@@ -144,8 +171,8 @@ impl Reading {
             (answer[5 + 2 * s], answer[6 + 2 * s]) = (at as u64, n as u64);
             let start = at;
             for boxes in kinds {
-                self.judge_record(s, sheet, at, if s == 2 { tables[1] } else { &[] }, boxes)?;
-                at += SIZES[s];
+                self.judge_record(version, s, sheet, at, if s == 2 { tables[1] } else { &[] }, boxes)?;
+                at += version.size(s);
             }
             tables.push(&sheet[start..at]);
         }
@@ -155,8 +182,8 @@ impl Reading {
         Ok(answer)
     }
 
-    fn judge_table(&self, section: usize, before: &[u8], table: &[u8]) -> Result<(), (u64, u64)> {
-        let n = count(section, table);
+    fn judge_table(&self, version: Version, section: usize, before: &[u8], table: &[u8]) -> Result<(), (u64, u64)> {
+        let n = count_of(version, section, table);
         if n > LIMITS[section] as u64 {
             return Err((4, if self.is(10) { n } else { 0 }));
         }
@@ -165,10 +192,10 @@ impl Reading {
             return Err((5, 0));
         }
         for (i, boxes) in kinds.into_iter().enumerate() {
-            let bytes = record(section, table, i as u64).bytes;
-            self.judge_record(section, bytes, 0, before, boxes).map_err(|_| (5, i as u64))?;
+            let bytes = record_of(version, section, table, i as u64).bytes;
+            self.judge_record(version, section, bytes, 0, before, boxes).map_err(|_| (5, i as u64))?;
         }
-        if !table.len().is_multiple_of(SIZES[section]) && !(self.is(11) && section == 7) {
+        if !table.len().is_multiple_of(version.size(section)) && !(self.is(11) && section == 7) {
             return Err((5, n));
         }
         Ok(())
@@ -202,17 +229,18 @@ fn together(a: Option<u64>, b: Option<u64>) -> Option<u64> {
 }
 
 struct Tables<'a> {
+    version: Version,
     alignment: u64,
     t: [&'a [u8]; 8],
 }
 
 impl<'a> Tables<'a> {
     fn record(&self, section: usize, i: u64) -> Fields<'a> {
-        record(section, self.t[section], i)
+        record_of(self.version, section, self.t[section], i)
     }
 
     fn count(&self, section: usize) -> u64 {
-        count(section, self.t[section])
+        count_of(self.version, section, self.t[section])
     }
 
     /// The j-th declared geometry of a Blas.
@@ -329,7 +357,7 @@ impl Reading {
         };
         let mut region = |id: u64, offset: u64, length: u64| {
             let size = x.record(0, id).get(buffer::SIZE);
-            let end = offset as u128 + length as u128;
+            let end = if self.is(79) { offset.wrapping_add(length).into() } else { offset as u128 + length as u128 };
             if end > size as u128 {
                 return no(23, &[offset, length, size]);
             }
@@ -347,6 +375,7 @@ impl Reading {
         }
         let (n, stride, first, id) =
             (given(geometry::COUNT), given(geometry::STRIDE), given(geometry::FIRST), given(geometry::BUFFER));
+        let first = if self.is(74) { first & TOP32 } else { first };
         let more = n > d.get(declared::COUNT) || self.is(16) && n == d.get(declared::COUNT) && n == TOP32;
         if b.get(blas::KIND) == 1 {
             if more {
@@ -359,7 +388,8 @@ impl Reading {
                 return no(33, &[stride]);
             }
             usable(id)?;
-            if stride > TOP32 || times(n, stride) > TOP32 + u64::from(self.is(19)) {
+            let far = self.is(80) && first > TOP32;
+            if stride > TOP32 || times(n, stride) > TOP32 + u64::from(self.is(19)) || far {
                 return no(26, &[times(n, stride), n, stride]);
             }
             return region(id, first, n * stride);
@@ -393,9 +423,14 @@ impl Reading {
             return no(20, &[]);
         }
         usable(id)?;
-        let end = (first + n) as u128 * stride as u128;
-        if end > x.record(0, id).get(buffer::SIZE).into() {
-            return no(23, &[times(first, stride), times(n, stride), x.record(0, id).get(buffer::SIZE)]);
+        if self.is(82) && first > TOP32 {
+            return no(26, &[times(first, stride), first, stride]);
+        }
+        let last = if self.is(77) { first.wrapping_add(n).into() } else { first as u128 + n as u128 };
+        // past a u128 it is past every buffer
+        if last.checked_mul(stride as u128).is_none_or(|end| end > x.record(0, id).get(buffer::SIZE).into()) {
+            let offset = if self.is(78) { first.wrapping_mul(stride) } else { times(first, stride) };
+            return no(23, &[offset, times(n, stride), x.record(0, id).get(buffer::SIZE)]);
         }
         region(id, first * stride, n * stride)?;
         let id = given(geometry::INDEX_BUFFER);
@@ -551,15 +586,15 @@ impl Reading {
         out
     }
 
-    fn build_or_refuse(&self, alignment: u32, t: [&[u8]; 8], out: Outputs) -> Result<[u64; 15], No> {
+    fn build_or_refuse(&self, version: Version, alignment: u32, t: [&[u8]; 8], out: Outputs) -> Result<[u64; 15], No> {
         if alignment == 0 {
             return Err((5, [0; 2], [0; 3]));
         }
         for s in 0..8 {
             let before = if s == 0 { &[][..] } else { t[s - 1] };
-            self.judge_table(s, before, t[s]).map_err(|(n, r)| (n, [s as u64 + 1, r], [0; 3]))?;
+            self.judge_table(version, s, before, t[s]).map_err(|(n, r)| (n, [s as u64 + 1, r], [0; 3]))?;
         }
-        let x = Tables { alignment: alignment.into(), t };
+        let x = Tables { version, alignment: alignment.into(), t };
         if self.is(38) && x.count(4) == 2 {
             self.plan(&x).err().filter(|no| no.0 == 10).map_or(Ok(()), Err)?;
         }
@@ -656,10 +691,10 @@ impl State<'_> {
 impl Reading {
     fn judge_start(&self, s: &State) -> Result<(), Cause> {
         let bare = |n: u64| Err((n, [0; 2]));
-        if let Err((n, _)) = self.judge_table(1, &[], s.lent.blases) {
+        if let Err((n, _)) = self.judge_table(Version::One, 1, &[], s.lent.blases) {
             return bare(n);
         }
-        if let Err((n, _)) = self.judge_table(3, &[], s.lent.tlases) {
+        if let Err((n, _)) = self.judge_table(Version::One, 3, &[], s.lent.tlases) {
             return bare(n);
         }
         let room = if self.is(42) { 511 } else { 512 };
@@ -816,8 +851,9 @@ impl Reading {
             Ok(read) => read,
             Err((number, place)) => return line("sheet", &[number, place]),
         };
-        let section = |s: usize| &sheet[read[5 + 2 * s] as usize..][..read[6 + 2 * s] as usize * SIZES[s]];
-        let x = Tables { alignment: read[3], t: std::array::from_fn(section) };
+        let version = if sheet[0] == 2 { Version::Two } else { Version::One };
+        let section = |s: usize| &sheet[read[5 + 2 * s] as usize..][..read[6 + 2 * s] as usize * version.size(s)];
+        let x = Tables { version, alignment: read[3], t: std::array::from_fn(section) };
         let (plan, recorded) = match self.ids(&x).and_then(|()| self.plan(&x)) {
             Ok(plan) => plan,
             Err((n, e, f)) => return line("build", &[n, e[0], e[1], f[0], f[1], f[2]]),
@@ -860,8 +896,8 @@ impl Side for Reading {
         self.read(sheet).unwrap_or_else(|(number, place)| std::array::from_fn(|k| [number, place].get(k).copied().unwrap_or(0)))
     }
 
-    fn build(&mut self, alignment: u32, tables: [&[u8]; 8], out: Outputs) -> [u64; 15] {
-        self.build_or_refuse(alignment, tables, out).unwrap_or_else(|(n, e, f)| {
+    fn build(&mut self, version: Version, alignment: u32, tables: [&[u8]; 8], out: Outputs) -> [u64; 15] {
+        self.build_or_refuse(version, alignment, tables, out).unwrap_or_else(|(n, e, f)| {
             let refusal = [n, e[0], e[1], f[0], f[1], f[2]];
             std::array::from_fn(|k| refusal.get(k).copied().unwrap_or(0))
         })
@@ -912,6 +948,24 @@ impl Side for Reading {
         }
         out[..text.len()].copy_from_slice(text.as_bytes());
         [0, text.len() as u64]
+    }
+
+    fn canonical(&self, sheet: &[u8]) -> Vec<u8> {
+        let mut bytes = crate::canonical::canonical(sheet);
+        if self.is(75) {
+            let raw = Raw::from_sheet(&bytes).expect("a sheet that is written is whole");
+            bytes = Raw { version: 1, ..raw }.sheet();
+        }
+        if self.is(76) {
+            bytes[0] = 1;
+        }
+        bytes
+    }
+
+    fn convert(&mut self, to: Version, sheet: &[u8], out: &mut [u8]) -> [u64; 3] {
+        let fault = self.fault.saturating_sub(FAULTS + crate::groups::FAULTS + crate::many::FAULTS);
+        let [number, place, ..] = self.read_sheet(sheet);
+        crate::convert::convert(to, sheet, out, (number, place), fault)
     }
 
     fn open(&mut self, groups: &[u8], slots: &mut [u8]) -> [u64; 5] {

@@ -204,7 +204,7 @@ fn actions(list: &mut List, rust: &mut RustSide) {
 fn limits(list: &mut List) {
     let base = rich();
     for s in 0..9 {
-        let at: usize = 13 + (0..s).map(|s| 2 + base.count(s) * SIZES[s]).sum::<usize>();
+        let at = base.place(s);
         for n in [LIMITS[s], LIMITS[s] + 1, 65535] {
             let mut sheet = base.sheet()[..at].to_vec();
             sheet.extend((n as u16).to_le_bytes());

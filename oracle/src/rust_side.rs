@@ -5,9 +5,9 @@ use std::panic::{catch_unwind, AssertUnwindSafe};
 use published::drive::{self, Act, Built, Mark, Recorded, Refused, Submission, World};
 use published::input::{Input, Package};
 
-use crate::layout::SIZES;
-use crate::paper;
+use crate::layout::{Version, SIZES};
 use crate::side::{Lent, Outputs, Side};
+use crate::{above, convert, paper};
 
 /// Numbers given, by call and mark; and how much else was compared, by what it is and mark.
 #[derive(Default, Clone)]
@@ -167,10 +167,10 @@ fn once_more(fresh: &World, handed: &[Act], refusal: Option<Refusal>, first: &Wo
 
 /// The start, judged before all actions.
 fn judge_start(lent: &Lent) -> u64 {
-    if let Err((number, _)) = paper::judge_table(1, &[], lent.blases) {
+    if let Err((number, _)) = paper::judge_table(Version::One, 1, &[], lent.blases) {
         return number;
     }
-    if let Err((number, _)) = paper::judge_table(3, &[], lent.tlases) {
+    if let Err((number, _)) = paper::judge_table(Version::One, 3, &[], lent.tlases) {
         return number;
     }
     let (blases, tlases) = (lent.blases.len() / SIZES[1], lent.tlases.len() / SIZES[3]);
@@ -248,10 +248,13 @@ fn scratch_tested(answer: &Result<Built, Refused>) -> bool {
     }
 }
 
-/// A build by the Rust. That it is a 37 the Rust decides; its E and first figure, which the Rust has not, are the paper's. Both must say
-/// whether there is one: where only one does, it stops here and is told as a difference, and no place is made up.
-fn build(w: &World, input: &Input) -> Result<Built, Refused> {
-    let mut answer = drive::build(w, input);
+/// A build by the Rust, and what it was driven on. That it is a 37 the Rust decides; its E and first figure, which the Rust has not, are the
+/// paper's. Both must say whether there is one: where only one does, it stops here and is told as a difference, and no place is made up.
+fn build(input: &Input) -> (World, Result<Built, Refused>) {
+    let low = above::lowered(input);
+    let driven = low.as_ref().unwrap_or(input);
+    let w = World::new(driven);
+    let mut answer = drive::build(&w, driven);
     if scratch_tested(&answer) {
         let by_the_rust = matches!(&answer, Err(r) if r.number == 37);
         let place = paper::scratch_place(input);
@@ -260,7 +263,19 @@ fn build(w: &World, input: &Input) -> Result<Built, Refused> {
             (r.e, r.f) = place;
         }
     }
-    answer
+    if low.is_some() {
+        answer = above::raised(input, answer);
+    }
+    (w, answer)
+}
+
+/// The name that a build is counted by: of version 1, of version 2, or of version 2 with an offset from 2^32 on, which the Rust has not.
+fn call(version: Version, input: &Input) -> &'static str {
+    match version {
+        Version::One => "build",
+        Version::Two if above::lowered(input).is_some() => "above",
+        Version::Two => "wide",
+    }
 }
 
 // ---- instances --------------------------------------------------------------------------------------------------------
@@ -278,7 +293,7 @@ fn instance_alone(tlases: &[u8], blases: &[u8], tlas: u16, instance: &[u8; 55]) 
     slot.blas = 0;
     let packages = vec![Package { tlas: 0, slots: vec![Some(slot)] }];
     let input = Input { alignment: 1, counter: 1, blases: vec![b], tlases: vec![t], packages, ..Input::default() };
-    let built = build(&World::new(&input), &input).map_err(|r| (r.number, r.mark))?;
+    let built = build(&input).1.map_err(|r| (r.number, r.mark))?;
     Ok(built.recorded.expect("scratch 1").staging)
 }
 
@@ -293,6 +308,15 @@ fn sheet_act(record: &[u8], recorded: Option<&Recorded>, tlas_count: usize) -> D
         (2, _) => Decoded::Act(Act::Use(operand)),
         (3, _) => Decoded::Act(Act::MarkBlas(operand.into())),
         _ => Decoded::Act(Act::MarkTlas(operand.into())),
+    }
+}
+
+/// Whose an accepted build is.
+fn accepted(call: &str) -> Mark {
+    if call == "above" {
+        Mark::Paper
+    } else {
+        Mark::Rust
     }
 }
 
@@ -313,26 +337,28 @@ impl RustSide {
 
     fn text_of(&mut self, sheet: &[u8]) -> String {
         let mut out = String::new();
+        let name = if sheet.first() == Some(&2) { "sheet_2" } else { "sheet" };
         let p = match paper::read_sheet(sheet) {
             Ok(p) => p,
             Err(r) => {
-                self.tally.answer("sheet", r.number, Mark::Paper);
+                self.tally.answer(name, r.number, Mark::Paper);
                 let _ = writeln!(out, "sheet {} {}", r.number, r.place);
                 return out;
             }
         };
-        self.tally.answer("sheet", 0, Mark::Paper);
-        let input = paper::input(p.alignment, p.counter, p.tables(sheet));
-        let w = World::new(&input);
-        let built = match build(&w, &input) {
+        self.tally.answer(name, 0, Mark::Paper);
+        let input = paper::input(p.version, p.alignment, p.counter, p.tables(sheet));
+        let call = call(p.version, &input);
+        let (w, built) = build(&input);
+        let built = match built {
             Ok(b) => b,
             Err(r) => {
-                self.tally_refused(r.number, r.mark);
+                self.tally_refused(call, r.number, r.mark);
                 let _ = writeln!(out, "build {} {} {} {} {} {}", r.number, r.e.0, r.e.1, r.f[0], r.f[1], r.f[2]);
                 return out;
             }
         };
-        self.tally.answer("build", 0, Mark::Rust);
+        self.tally.answer(call, 0, accepted(call));
         out.push_str("build 0 0 0 0 0 0\n");
         if let Some(r) = &built.recorded {
             let _ = writeln!(out, "scratch {}", r.scratch_size);
@@ -342,7 +368,7 @@ impl RustSide {
             for (id, offset, start, end) in &r.tlases {
                 let _ = writeln!(out, "tlas {id} {offset} {start} {end}");
             }
-            self.tally_plan(&built);
+            self.tally_plan(call, &built);
         }
         let records = p.section(sheet, 8).chunks_exact(SIZES[8]);
         let acts = records.map(|r| sheet_act(r, built.recorded.as_ref(), input.tlases.len()));
@@ -357,15 +383,15 @@ impl RustSide {
     }
 
     /// A refused build; of a 37 the place is counted apart, since it isn't the Rust's.
-    fn tally_refused(&mut self, number: u64, mark: Mark) {
-        self.tally.answer("build", number, mark);
+    fn tally_refused(&mut self, call: &'static str, number: u64, mark: Mark) {
+        self.tally.answer(call, number, mark);
         if number == 37 {
             self.tally.part("37: entry or package", Mark::Paper, 1);
         }
     }
 
-    fn tally_plan(&mut self, built: &Built) {
-        self.tally.part("initialisation ranges, as asked for", Mark::Rust, built.init_ranges.len());
+    fn tally_plan(&mut self, call: &'static str, built: &Built) {
+        self.tally.part("initialisation ranges, as asked for", accepted(call), built.init_ranges.len());
         let Some(r) = &built.recorded else { return };
         let summed = if r.rounded { Mark::StandIn } else { Mark::Rust };
         self.tally.part("scratch sizes and offsets", summed, 1 + r.blases.len() + r.tlases.len());
@@ -380,20 +406,18 @@ impl RustSide {
 
     fn build_inner(
         &mut self,
-        alignment: u32,
-        tables: [&[u8]; 8],
+        call: &'static str,
+        input: &Input,
         out: Outputs,
     ) -> Result<[u64; 15], (u64, (u64, u64), [u64; 3], Mark)> {
-        paper::judge_tables(alignment, tables).map_err(|(number, e)| (number, e, [0; 3], Mark::Paper))?;
-        let input = paper::input(alignment, 1, tables);
-        let built = build(&World::new(&input), &input).map_err(|r| (r.number, r.e, r.f, r.mark))?;
+        let built = build(input).1.map_err(|r| (r.number, r.e, r.f, r.mark))?;
         let init: Vec<u64> = built.init_ranges.iter().flat_map(|&(b, s, e)| [b.into(), s, e]).collect();
         let short = (39, (0, 0), [0; 3], Mark::Paper);
         let mut answer = [0; 15];
         answer[12] = init.len() as u64;
         let Some(r) = &built.recorded else {
             out.init_ranges.get_mut(..init.len()).ok_or(short)?.copy_from_slice(&init);
-            self.tally_plan(&built);
+            self.tally_plan(call, &built);
             return Ok(answer);
         };
         let blas_offsets: Vec<u64> = r.blases.iter().map(|b| b.1).collect();
@@ -440,7 +464,7 @@ impl RustSide {
         for (k, n) in written.into_iter().enumerate() {
             answer[8 + k] = n as u64;
         }
-        self.tally_plan(&built);
+        self.tally_plan(call, &built);
         Ok(answer)
     }
 
@@ -504,7 +528,7 @@ impl Side for RustSide {
         match paper::read_sheet(sheet) {
             Err(r) => (answer[0], answer[1]) = (r.number, r.place as u64),
             Ok(p) => {
-                (answer[2], answer[3], answer[4]) = (p.version.into(), p.alignment.into(), p.counter);
+                (answer[2], answer[3], answer[4]) = (p.version.number(), p.alignment.into(), p.counter);
                 for (s, (start, count)) in p.sections.into_iter().enumerate() {
                     (answer[5 + 2 * s], answer[6 + 2 * s]) = (start as u64, count as u64);
                 }
@@ -513,17 +537,26 @@ impl Side for RustSide {
         answer
     }
 
-    fn build(&mut self, alignment: u32, tables: [&[u8]; 8], out: Outputs) -> [u64; 15] {
-        match self.build_inner(alignment, tables, out) {
+    fn build(&mut self, version: Version, alignment: u32, tables: [&[u8]; 8], out: Outputs) -> [u64; 15] {
+        let refused = |number, e: (u64, u64), f: [u64; 3]| {
+            let mut answer = [0; 15];
+            answer[..6].copy_from_slice(&[number, e.0, e.1, f[0], f[1], f[2]]);
+            answer
+        };
+        if let Err((number, e)) = paper::judge_tables(version, alignment, tables) {
+            self.tally_refused(if version == Version::One { "build" } else { "wide" }, number, Mark::Paper);
+            return refused(number, e, [0; 3]);
+        }
+        let input = paper::input(version, alignment, 1, tables);
+        let call = call(version, &input);
+        match self.build_inner(call, &input, out) {
             Ok(answer) => {
-                self.tally.answer("build", 0, Mark::Rust);
+                self.tally.answer(call, 0, accepted(call));
                 answer
             }
             Err((number, e, f, mark)) => {
-                self.tally_refused(number, mark);
-                let mut answer = [0; 15];
-                answer[..6].copy_from_slice(&[number, e.0, e.1, f[0], f[1], f[2]]);
-                answer
+                self.tally_refused(call, number, mark);
+                refused(number, e, f)
             }
         }
     }
@@ -598,6 +631,14 @@ impl Side for RustSide {
             }
             None => [39, 0],
         }
+    }
+
+    /// By a second reading of the request: the Rust has no sheet.
+    fn convert(&mut self, to: Version, sheet: &[u8], out: &mut [u8]) -> [u64; 3] {
+        let [number, place, ..] = self.read_sheet(sheet);
+        let answer = convert::convert(to, sheet, out, (number, place), 0);
+        self.tally.answer(if to == Version::Two { "to_2" } else { "to_1" }, answer[0], Mark::Paper);
+        answer
     }
 
     /// By a second reading of the request: the Rust has no groups.

@@ -254,10 +254,11 @@ fn smaller_submission(case: &Case, take: &mut dyn FnMut(Case) -> bool) -> bool {
 /// The tables of a build with fewer records or lower numbers; also with as many elements of output as these need, less as
 /// many as were missing before.
 fn smaller_build(case: &Case, take: &mut dyn FnMut(Case) -> bool) -> bool {
-    let Case::Build { alignment, tables, rooms } = case else { return false };
-    let mut raw = Raw { version: 1, alignment: (*alignment).into(), counter: 0, ..Raw::default() };
+    let Case::Build { version, alignment, tables, rooms } = case else { return false };
+    let version = *version;
+    let mut raw = Raw { version: version.number(), alignment: (*alignment).into(), counter: 0, ..Raw::default() };
     (0..8).for_each(|s| raw.take_table(s, &tables[s]));
-    let part = |s: usize| &tables[s][tables[s].len() / SIZES[s] * SIZES[s]..];
+    let part = |s: usize| &tables[s][tables[s].len() / version.size(s) * version.size(s)..];
     let needed = crate::generate::rooms(&raw);
     let mut taken = |less: Raw| {
         let mut tables = less.tables();
@@ -265,8 +266,8 @@ fn smaller_build(case: &Case, take: &mut dyn FnMut(Case) -> bool) -> bool {
         let alignment = less.alignment as u32;
         let needs = crate::generate::rooms(&less);
         let fitted = std::array::from_fn(|k| needs[k].saturating_sub(needed[k].saturating_sub(rooms[k])));
-        take(Case::Build { alignment, tables: tables.clone(), rooms: fitted })
-            || take(Case::Build { alignment, tables, rooms: *rooms })
+        take(Case::Build { version, alignment, tables: tables.clone(), rooms: fitted })
+            || take(Case::Build { version, alignment, tables, rooms: *rooms })
     };
     if smaller_raw(&raw, &mut taken) {
         return true;
@@ -274,13 +275,13 @@ fn smaller_build(case: &Case, take: &mut dyn FnMut(Case) -> bool) -> bool {
     for s in (0..8).filter(|&s| !part(s).is_empty()) {
         let mut whole = tables.clone();
         whole[s].pop();
-        offer!(take, Case::Build { alignment: *alignment, tables: whole, rooms: *rooms });
+        offer!(take, Case::Build { version, alignment: *alignment, tables: whole, rooms: *rooms });
     }
     for k in 0..7 {
         for v in lower(rooms[k] as u64) {
             let mut less = *rooms;
             less[k] = v as usize;
-            offer!(take, Case::Build { alignment: *alignment, tables: tables.clone(), rooms: less });
+            offer!(take, Case::Build { version, alignment: *alignment, tables: tables.clone(), rooms: less });
         }
     }
     false

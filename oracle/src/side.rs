@@ -1,4 +1,5 @@
 //! What is compared: calls in the exact bytes and cells that the static library takes, and all that each leaves.
+use crate::layout::Version;
 
 /// A build's lent outputs, in the order of the exported function.
 pub struct Outputs<'a> {
@@ -23,8 +24,9 @@ pub struct Lent<'a> {
 pub trait Side {
     /// number, place, version, alignment, counter, then start and count of sections 1 to 9
     fn read_sheet(&mut self, sheet: &[u8]) -> [u64; 23];
-    /// number, E, three figures, recorded, scratch size, how many elements of each output were written
-    fn build(&mut self, alignment: u32, tables: [&[u8]; 8], out: Outputs) -> [u64; 15];
+    /// number, E, three figures, recorded, scratch size, how many elements of each output were written; the tables' version says which of
+    /// the two functions it is
+    fn build(&mut self, version: Version, alignment: u32, tables: [&[u8]; 8], out: Outputs) -> [u64; 15];
     /// number, action, two figures; `indices` is the submission index and the counter
     fn submit(&mut self, indices: &mut [u64; 2], lent: Lent, actions: &[u32], lists: &[u16]) -> [u64; 4];
     /// number, E, three figures, bytes in use
@@ -40,11 +42,17 @@ pub trait Side {
         if number != 0 {
             return [number, place, 0];
         }
-        let bytes = crate::canonical::canonical(sheet);
+        let bytes = self.canonical(sheet);
         let Some(part) = out.get_mut(..bytes.len()) else { return [39, 0, 0] };
         part.copy_from_slice(&bytes);
         [0, 0, bytes.len() as u64]
     }
+    /// The sheet that is written.
+    fn canonical(&self, sheet: &[u8]) -> Vec<u8> {
+        crate::canonical::canonical(sheet)
+    }
+    /// number, place, bytes written
+    fn convert(&mut self, to: Version, sheet: &[u8], out: &mut [u8]) -> [u64; 3];
     /// number, place, group, item, bytes written
     fn open(&mut self, groups: &[u8], slots: &mut [u8]) -> [u64; 5];
 }
@@ -71,13 +79,15 @@ fn pattern_u64(n: usize) -> Vec<u64> {
 
 #[derive(Clone, Debug, PartialEq, Eq)]
 pub enum Case {
-    /// `room` is how much longer than the text (or shorter) the output of the text is, and than the sheet where it is written anew
+    /// `room` is how much longer than the text (or shorter) the output of the text is, and than the sheet where it is written anew or in
+    /// the other version
     Sheet {
         bytes: Vec<u8>,
         room: i64,
     },
     /// `rooms` are the outputs' lengths
     Build {
+        version: Version,
         alignment: u32,
         tables: [Vec<u8>; 8],
         rooms: [usize; 7],
@@ -127,8 +137,10 @@ fn part<T: Copy + Into<u64>>(name: &'static str, values: &[T]) -> Part {
 impl Case {
     pub fn kind(&self) -> &'static str {
         match self {
+            Case::Sheet { bytes, .. } if bytes.first() == Some(&2) => "wide sheet",
             Case::Sheet { .. } => "sheet",
-            Case::Build { .. } => "build",
+            Case::Build { version: Version::One, .. } => "build",
+            Case::Build { version: Version::Two, .. } => "wide build",
             Case::Submit { .. } => "submission",
             Case::Append { .. } => "append",
             Case::Many { .. } => "many",
@@ -148,16 +160,24 @@ impl Case {
                 let n = (bytes.len() as i64 + room).max(0) as usize;
                 let mut anew = pattern_u8(n);
                 let write = side.write(&lent, &mut anew[..n]);
+                let n = (crate::convert::length(bytes) as i64 + room).max(0) as usize;
+                let (mut in_2, mut in_1) = (pattern_u8(n), pattern_u8(n));
+                let to_2 = side.convert(Version::Two, &lent, &mut in_2[..n]);
+                let to_1 = side.convert(Version::One, &lent, &mut in_1[..n]);
                 vec![
                     part("read", &read),
                     part("report", &report),
                     part("text", &out),
                     part("write", &write),
                     part("anew", &anew),
+                    part("to_2", &to_2),
+                    part("in version 2", &in_2),
+                    part("to_1", &to_1),
+                    part("in version 1", &in_1),
                     part("inputs kept", &[u64::from(lent == *bytes)]),
                 ]
             }
-            Case::Build { alignment, tables, rooms } => {
+            Case::Build { version, alignment, tables, rooms } => {
                 let lent = tables.clone();
                 let (mut blas_offsets, mut tlas_offsets) = (pattern_u64(rooms[0]), pattern_u64(rooms[1]));
                 let (mut staging_ranges, mut instances) = (pattern_u64(rooms[2]), pattern_u8(rooms[3]));
@@ -172,7 +192,7 @@ impl Case {
                     compactable: &mut compactable[..rooms[5]],
                     lists: &mut lists[..rooms[6]],
                 };
-                let answer = side.build(*alignment, std::array::from_fn(|s| &lent[s][..]), out);
+                let answer = side.build(*version, *alignment, std::array::from_fn(|s| &lent[s][..]), out);
                 vec![
                     part("build", &answer),
                     part("blas_offsets", &blas_offsets),

@@ -1,8 +1,8 @@
-//! A refusal in words, from the paper's table "Causes and what they cost": a second reading of it.
+//! A refusal in words, from the paper's table "Causes and what they cost" and the requests' causes: a second reading of it.
 
 /// The column "Cause", and the figures that are told.
-const CAUSES: [(u64, &str, &[&str]); 43] = [
-    (1, "version not 1", &[]),
+const CAUSES: [(u64, &str, &[&str]); 44] = [
+    (1, "version neither 1 nor 2", &[]),
     (2, "sheet ends early", &[]),
     (3, "bytes after the sheet", &[]),
     (4, "count above its limit", &[]),
@@ -45,6 +45,7 @@ const CAUSES: [(u64, &str, &[&str]); 43] = [
     (44, "Blas newer than Tlas", &["Blas", "Tlas"]),
     (45, "count 0, or a group that is not an earlier one", &[]),
     (46, "more than 512 slots", &[]),
+    (47, "first vertex or primitive offset above 2^32 - 1", &[]),
 ];
 
 fn item((word, value): (&&str, &u64)) -> String {
@@ -68,7 +69,7 @@ fn place(number: u64, sort: u64) -> &'static [&'static str] {
 }
 
 /// Whether a call can refuse with a number: 1 reads a sheet, 2 builds, 3 submits, 4 appends an instance, 5 writes a sheet, 6 opens groups,
-/// 7 appends many instances.
+/// 7 appends many instances, 8 and 9 convert a sheet to version 2 and to version 1.
 fn refuses_with(call: u64, number: u64) -> bool {
     match call {
         1 => (1..=5).contains(&number),
@@ -78,11 +79,13 @@ fn refuses_with(call: u64, number: u64) -> bool {
         5 => matches!(number, 1..=5 | 39),
         6 => matches!(number, 2..=5 | 39 | 45 | 46),
         7 => matches!(number, 5 | 6 | 34 | 35 | 39),
+        8 => matches!(number, 1..=5 | 39),
+        9 => matches!(number, 1..=5 | 39 | 47),
         _ => false,
     }
 }
 
-/// A refusal of a call. E of a sheet, read or written, is its place, of a submission the action and its kind, of groups the place, or the
+/// A refusal of a call. E of a sheet, read, written or converted, is its place, of a submission the action and its kind, of groups the place, or the
 /// group and the item, of many instances 0, which is not told, and the position.
 pub fn words(call: u64, number: u64, e: [u64; 2], f: [u64; 3]) -> String {
     if number == 0 {
@@ -90,6 +93,12 @@ pub fn words(call: u64, number: u64, e: [u64; 2], f: [u64; 3]) -> String {
     }
     let cause = CAUSES.iter().copied().find(|c| c.0 == number && refuses_with(call, number));
     let Some((_, cause, figures)) = cause else { return format!("refused {number}: no such cause\n") };
+    // a converter takes one version alone
+    let cause = match (call, number) {
+        (8, 1) => "version not 1",
+        (9, 1) => "version not 2",
+        _ => cause,
+    };
     let mut line = format!("refused {number}: {cause}");
     match call {
         1 => line += &format!(", byte {}", e[0]),
@@ -97,7 +106,7 @@ pub fn words(call: u64, number: u64, e: [u64; 2], f: [u64; 3]) -> String {
         // at position 0 it may be the Tlas
         7 if number == 6 && e[1] == 0 => line += ", Tlas or instance 0",
         7 if number != 39 => line += &format!(", instance {}", e[1]),
-        5 | 6 if number != 39 => line += &format!(", byte {}", e[0]),
+        5 | 6 | 8 | 9 if number != 39 => line += &format!(", byte {}", e[0]),
         2 => {
             line.extend(place(number, f[0]).iter().zip(&e).map(item));
             let sort = match (number, f[0]) {
