@@ -2,11 +2,12 @@
 """What ./zakvind asks of Python, over kept files:
 
     edge.py words   SHEET ANSWER NAME   the line that names the refused field or id, for a refusal of 1 to 6
+    edge.py unconverted SHEET ANSWER NAME VERSION   the same of a sheet that is not converted to VERSION, for 1 to 5 and 47
     edge.py show    SHEET ANSWER NAME   the sheet as text
     edge.py picture SHEET ANSWER NAME   the sheet from above, as SVG
     edge.py make    TEXT OUT NAME       the sheet of a text
 
-ANSWER has what the program printed for the sheet with its words. NAME is what to call the file. Status 0; 1: `make` made a sheet that its
+ANSWER has what the program printed for the sheet with its words; of `unconverted` those words alone. NAME is what to call the file. Status 0; 1: `make` made a sheet that its
 reader refuses; 2: what is wrong is said in one line on standard error.
 """
 import sys
@@ -14,7 +15,7 @@ import sys
 sys.dont_write_bytecode = True
 
 from text import BadText, make, show  # noqa: E402
-from verdict import Disagreement, Verdict  # noqa: E402
+from verdict import Disagreement, Verdict, unconverted  # noqa: E402
 from walk import Walked  # noqa: E402
 
 
@@ -52,22 +53,26 @@ def make_sheet(text_file, out, name):
     return 1
 
 
-def look(verb, sheet, answer, name):
+def looked_at(verb, walked, answer, name, *version):
+    if verb == "unconverted":
+        return unconverted(walked, int(*version), answer) + "\n"
+    verdict = Verdict(walked, answer)
+    if verb == "words":
+        return verdict.named + "\n" if verdict.named else ""
+    if verb == "show":
+        return show(walked, verdict)
+    from picture import picture
+
+    return picture(walked, verdict, name)
+
+
+def look(verb, sheet, answer, name, *version):
     data = content(sheet)
-    walked = Walked(data, is_cut=len(data) >= MOST)
     try:
-        verdict = Verdict(walked, content(answer).decode())
+        text = looked_at(verb, Walked(data, is_cut=len(data) >= MOST), content(answer).decode(), name, *version)
     except Disagreement as e:
         say(name, f"program and format differ: {e}")
         return 2
-    if verb == "words":
-        text = verdict.named + "\n" if verdict.named else ""
-    elif verb == "show":
-        text = show(walked, verdict)
-    else:
-        from picture import picture
-
-        text = picture(walked, verdict, name)
     sys.stdout.buffer.write(text.encode("utf-8"))
     sys.stdout.buffer.flush()
     return 0
@@ -77,7 +82,7 @@ def main():
     verb, *rest = sys.argv[1:]
     if verb == "make":
         return make_sheet(*rest)
-    if verb in ("words", "show", "picture"):
+    if verb in ("words", "unconverted", "show", "picture"):
         return look(verb, *rest)
     print(__doc__, file=sys.stderr)
     return 2

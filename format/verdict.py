@@ -2,11 +2,20 @@
 import re
 
 from refusals import CAUSES
-from walk import missing_of_action, missing_of_build, missing_words, refusal_words
+from walk import conversion_refusal, missing_of_action, missing_of_build, missing_words, refusal_words
 
 
 class Disagreement(Exception):
     """The format reads the sheet otherwise than the program did."""
+
+
+def unconverted(walked, version, words):
+    """The words with the field's name for a sheet that the program does not convert to a version, by the program's own words."""
+    own = conversion_refusal(walked, version)
+    said = re.fullmatch(r"refused (\d+): .*, byte (\d+)", words.strip())
+    if not said or not own or (int(said[1]), int(said[2])) != (own.number, own.place):
+        raise Disagreement(f"the program says {words.strip()}, the format {own and refusal_words(own)}")
+    return refusal_words(own)
 
 
 class Verdict:

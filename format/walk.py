@@ -209,6 +209,23 @@ def refusal_words(refusal):
     return where + " ".join(filter(None, (spoken(refusal.name), refusal.why)))
 
 
+def conversion_refusal(walked, version):
+    """What is refused of a sheet that is to be converted to a version: a version other than the one to come from, then what a reader refuses,
+    then the first value that does not fit its field there."""
+    (source,) = set(VERSIONS) - {version}
+    if walked.head and walked.version != source:
+        return Refusal(1, 0, 0, -1, "version", f"is {walked.version}, may be {source}")
+    if walked.refusal:
+        return walked.refusal
+    for table in walked.tables:
+        number = table.section.number
+        for i, r in enumerate(table.records):
+            for (f, _, name), (_, at, _) in zip(SINGLE[version, number], SINGLE[source, number], strict=True):
+                if r.values[name] >= 256**f.width:
+                    return Refusal(47, r.place + at, number, i, name, f"is {r.values[name]}, may be {allowed_words(f)}")
+    return None
+
+
 class Missing(NamedTuple):
     """An id outside its table: where it stands, and what it names."""
 

@@ -2,31 +2,22 @@
 // way, to version 2 and to version 1: number, place, bytes written, and a hash of all the room, filled with a pattern before. What is written
 // is converted back: its line, and whether it has the sheet's own bytes. tests/make_convert_cases.py makes sheets and answers.
 use libc::STDOUT_FILENO;
+use ray_tracing::Version;
 use ray_tracing::WriteAnswer;
 
-fn print_answer(a: WriteAnswer, out: &[u8]) -> usize {
+fn convert(to: Version, sheet: &[u8], out: &mut [u8]) -> WriteAnswer {
+    match to {
+        Version::One => capi_answers::convert_answer(sheet_convert::to_version_1(sheet, out)),
+        Version::Two => capi_answers::convert_answer(sheet_convert::to_version_2(sheet, out)),
+    }
+}
+
+// Converts a sheet into the room, prints its line, and says how many bytes are written: 0 for a refused one.
+fn print_converted(to: Version, sheet: &[u8], out: &mut [u8]) -> usize {
+    let a = convert(to, sheet, out);
     let line = [a.number, a.place, a.written, cases::hash_u8(out)];
     cases::print_line(&line);
     a.written as usize
-}
-
-// Each converts a sheet into the room, prints its line, and says how many bytes are written: 0 for a refused one.
-fn to_2(sheet: &[u8], out: &mut [u8]) -> usize {
-    let a = capi_answers::convert_answer(sheet_convert::to_version_2(sheet, out));
-    print_answer(a, out)
-}
-
-fn to_1(sheet: &[u8], out: &mut [u8]) -> usize {
-    let a = capi_answers::convert_answer(sheet_convert::to_version_1(sheet, out));
-    print_answer(a, out)
-}
-
-// The first n, where there are so many; else none.
-fn first(bytes: &[u8], n: usize) -> &[u8] {
-    if bytes.len() < n {
-        return &bytes[0..0];
-    }
-    &bytes[0..n]
 }
 
 fn print_same(a: &[u8], b: &[u8]) {
@@ -37,31 +28,25 @@ fn print_same(a: &[u8], b: &[u8]) {
     }
 }
 
-fn back_to_1(there: &[u8], sheet: &[u8]) {
-    let mut back = [165u8; 65536];
-    let n = to_1(there, &mut back);
-    print_same(first(&back, n), sheet);
-}
-
-fn back_to_2(there: &[u8], sheet: &[u8]) {
-    let mut back = [165u8; 65536];
-    let n = to_2(there, &mut back);
-    print_same(first(&back, n), sheet);
-}
-
-fn to_2_and_back(sheet: &[u8], room: usize) {
-    let mut there = [165u8; 65536];
-    let n = to_2(sheet, cases::first_u8(&mut there, room));
-    if 0 < n {
-        back_to_1(first(&there, n), sheet);
+// The first n, where there are so many; else none.
+fn first(bytes: &[u8], n: usize) -> &[u8] {
+    if bytes.len() < n {
+        return &bytes[0..0];
     }
+    &bytes[0..n]
 }
 
-fn to_1_and_back(sheet: &[u8], room: usize) {
+fn print_back(to: Version, there: &[u8], sheet: &[u8]) {
+    let mut back = [165u8; 65536];
+    let n = print_converted(to, there, &mut back);
+    print_same(first(&back, n), sheet);
+}
+
+fn print_there_and_back(to: Version, from: Version, sheet: &[u8], room: usize) {
     let mut there = [165u8; 65536];
-    let n = to_1(sheet, cases::first_u8(&mut there, room));
+    let n = print_converted(to, sheet, cases::first_u8(&mut there, room));
     if 0 < n {
-        back_to_2(first(&there, n), sheet);
+        print_back(from, first(&there, n), sheet);
     }
 }
 
@@ -74,8 +59,8 @@ fn next_case() -> bool {
     }
     let mut sheet = io::large_buffer();
     let n = cases::fill(&mut sheet, length);
-    to_2_and_back(&sheet[..n], room);
-    to_1_and_back(&sheet[..n], room);
+    print_there_and_back(Version::Two, Version::One, &sheet[..n], room);
+    print_there_and_back(Version::One, Version::Two, &sheet[..n], room);
     true
 }
 

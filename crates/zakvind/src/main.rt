@@ -1,11 +1,14 @@
 // zakvind [VERB]: reads a sheet from standard input and prints its lines; with the verb `explain` also what they refuse, in words; with
-// `canonical` in their place its canonical bytes. Of an input that is longer than the buffer the first 65,536 bytes are read: the first 56,416
+// `canonical` in their place its canonical bytes. Of an input that is longer than the buffer the first 65,536 bytes are read: the first 57,440
 // decide what is printed (`report-prefix` of `report`, `explained-prefix` of `explain`) and whether a sheet is read at all (`prefix-decides` of
-// `ray_tracing`). None has more than 56,415, so that no part of a longer input is written as one.
+// `ray_tracing`). None has more than 57,439, so that no part of a longer input is written as one.
 //
-// With the verb `open` the input is groups of slots, and the slots that they open to are printed, with a line to standard error that says how
-// many bytes those are; nothing where they are refused. With `unopened` it is printed in words why they are. Of an input that is longer than
-// 1,048,575 bytes nothing is printed. Both take it by one function, which so is compiled by itself: what prints sheets sets up no such stack.
+// With `to-2` and `to-1` the sheet's bytes in that version are printed, with a line to standard error that says how many those are; nothing where
+// it is not converted. With `not-to-2` and `not-to-1` it is printed in words why it isn't.
+//
+// With the verb `open` the input is groups of slots, and the slots that they open to are printed, with such a line; nothing where they are
+// refused. With `unopened` it is printed in words why they are. Of an input that is longer than 1,048,575 bytes nothing is printed. Both take it
+// by one function, which so is compiled by itself: what prints sheets sets up no such stack.
 //
 // For other arguments it prints nothing.
 use libc::STDERR_FILENO;
@@ -14,6 +17,8 @@ use libc::STDOUT_FILENO;
 use ray_tracing::OpenAnswer;
 use ray_tracing::Reported;
 use ray_tracing::SheetWritten;
+use ray_tracing::Version;
+use ray_tracing::WriteAnswer;
 use report_words::Refusal;
 ghost use mathlib.Core.Path.{_≡_};
 ghost use lib.ListN.{length};
@@ -48,6 +53,60 @@ fn print_canonical(sheet: &[u8]) {
     }
 }
 
+fn say_written(n: u64) {
+    io::write_all(STDERR_FILENO, b"written ");
+    io::print_decimal(STDERR_FILENO, n);
+    io::write_all(STDERR_FILENO, b"\n");
+}
+
+// No words are more than 247 bytes.
+fn print_words(refusal: Refusal) {
+    let mut text = [0u8; 247];
+    if let Reported::Written(n) = report_words::words(refusal, &mut text) {
+        print(&text, n);
+    }
+}
+
+// A sheet in a version. Every sheet that is converted has room: none is longer than 57,439 bytes in either version.
+fn convert(to: Version, sheet: &[u8], out: &mut [u8]) -> WriteAnswer {
+    match to {
+        Version::One => capi_answers::convert_answer(sheet_convert::to_version_1(sheet, out)),
+        Version::Two => capi_answers::convert_answer(sheet_convert::to_version_2(sheet, out)),
+    }
+}
+
+fn print_converted(to: Version, sheet: &[u8]) {
+    let mut out = io::large_buffer();
+    let a = convert(to, sheet, &mut out);
+    let n = a.written as usize;
+    if a.number == 0 {
+        print(&out, n);
+        say_written(a.written);
+    }
+}
+
+// The call that `report_words` takes it for.
+fn call_of(to: Version) -> u64 {
+    match to {
+        Version::One => 9,
+        Version::Two => 8,
+    }
+}
+
+fn print_unconverted(to: Version, sheet: &[u8]) {
+    let mut out = io::large_buffer();
+    let a = convert(to, sheet, &mut out);
+    print_words(Refusal {
+        call: call_of(to),
+        number: a.number,
+        e: a.place,
+        f: 0,
+        x: 0,
+        y: 0,
+        z: 0,
+    });
+}
+
 // What opening the groups of the input came to; or it fills the buffer, and may be longer.
 enum Taken {
     Whole(OpenAnswer),
@@ -69,12 +128,6 @@ fn open_input(slots: &mut [u8]) -> Taken {
     Taken::Longer
 }
 
-fn say_opened(n: u64) {
-    io::write_all(STDERR_FILENO, b"opened ");
-    io::print_decimal(STDERR_FILENO, n);
-    io::write_all(STDERR_FILENO, b"\n");
-}
-
 // No groups open to more than 512 slots of 56 bytes, and none that are not refused to none.
 fn print_slots() {
     let mut out = [0u8; 28672];
@@ -82,16 +135,8 @@ fn print_slots() {
         let n = a.written as usize;
         if a.number == 0 {
             print(&out, n);
-            say_opened(a.written);
+            say_written(a.written);
         }
-    }
-}
-
-// No words are more than 247 bytes.
-fn print_words(refusal: Refusal) {
-    let mut text = [0u8; 247];
-    if let Reported::Written(n) = report_words::words(refusal, &mut text) {
-        print(&text, n);
     }
 }
 
@@ -124,6 +169,14 @@ fn answer(verb: &[u8], sheet: &[u8]) {
         print_explained(sheet);
     } else if check::same(verb, b"canonical") {
         print_canonical(sheet);
+    } else if check::same(verb, b"to-2") {
+        print_converted(Version::Two, sheet);
+    } else if check::same(verb, b"to-1") {
+        print_converted(Version::One, sheet);
+    } else if check::same(verb, b"not-to-2") {
+        print_unconverted(Version::Two, sheet);
+    } else if check::same(verb, b"not-to-1") {
+        print_unconverted(Version::One, sheet);
     }
 }
 
