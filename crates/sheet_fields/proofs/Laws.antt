@@ -7,10 +7,12 @@ use mathlib.Core.Bool.{Bool, true, false, not, _&&_, _||_, cond}
 use mathlib.Core.Path.{_≡_, refl, sym, ap, _∙_}
 use mathlib.Core.List.{List, [], _∷_, _++_, map}
 use lib.Dec.{eqb, ltb, leb, T}
-use lib.ListN.{length, getD, List·getD-eq-default}
+use lib.ListN.{length, getD, set, List·getD-eq-default}
 use borrow.Author.Tests.{ne-eqb, eqb-true, le-ltb, lt-ltb, ltb-true, leb-true}
 use Rattle.wire.specs.Wire.{leAt}
-use Rattle.ray_tracing.specs.Layout.{Seen, Field, fits, layout, size, total, always, any, wide}
+use Rattle.ray_tracing.specs.declared.Version.{Version}
+use Rattle.ray_tracing.specs.declared.Version.the-variants as version
+use Rattle.ray_tracing.specs.Layout.{Seen, Field, fits, offsetWidth, layoutIn, sizeIn, total, always, any, wide}
 use Rattle.ray_tracing.specs.Reading.{Judged, fine, refused, judgedWhen, _andNext_, begin, judgeFields}
 use Rattle.sheet_fields.specs.Table.{
   untagged,
@@ -29,7 +31,7 @@ use Rattle.sheet_fields.specs.Table.{
   firsts,
   ruled,
 }
-use Rattle.sheet_layout.proofs.Table.{at, each}
+use Rattle.sheet_layout.proofs.Table.{every, at, each}
 
 -- ---- the code's tables
 
@@ -47,6 +49,10 @@ codes =
     ∷ 0x16 ∷ 0x20
     ∷ []
 
+-- those of a version: the geometries' offset has its width
+abbrev pub codesIn : Version → List ℕ
+codesIn v = set codes 30 (16 * offsetWidth v)
+
 pub width-8 : (w : ℕ) → isWidth w ≡ true → (w ≡ 1 → ⊥) → (w ≡ 2 → ⊥) → (w ≡ 4 → ⊥) → w ≡ 8
 width-8 w h a b c = eqb-true w 8 (rw (ne-eqb w 1 a, ne-eqb w 2 b, ne-eqb w 4 c) at h)
 
@@ -54,9 +60,14 @@ T-true : (b : Bool) → T b → b ≡ true
 T-true true t = refl
 T-true false t = absurd t
 
-pub widths : Widths codes
-widths k h =
-    (ltb-true _ 256 (T-true _ (at (λ i x. ltb x 256) codes tt k h)), T-true _ (at (λ i x. isWidth (x / 16)) codes tt k h))
+-- a table with x for the offset whose fields all pass the two tests
+widths-of : (x : ℕ) → T (every (λ i y. ltb y 256) 0 (set codes 30 x)) → T (every (λ i y. isWidth (y / 16)) 0 (set codes 30 x)) → Widths (set codes 30 x)
+widths-of x t u k h =
+    (ltb-true _ 256 (T-true _ (at (λ i y. ltb y 256) (set codes 30 x) t k h)), T-true _ (at (λ i y. isWidth (y / 16)) (set codes 30 x) u k h))
+
+pub widths : (v : Version) → Widths (codesIn v)
+widths version.One = widths-of 64 tt tt
+widths version.Two = widths-of 128 tt tt
 
 -- ---- rules
 
@@ -97,8 +108,8 @@ abbrev unasked : Field → View
 unasked f = record { width = f .width; fits = λ c v. fits f (untagged c) v; after = λ c v. untagged (f .after (untagged c) v) }
 
 -- no field of the layout asks for the tag
-untold : (k : ℕ) → k < 10 → map view (layout k .fields) ≡ map unasked (layout k .fields)
-untold = each (λ (k : ℕ). map view (layout k .fields) ≡ map unasked (layout k .fields)) 10 (refl, (refl, (refl, (refl, (refl, (refl, (refl, (refl, (refl, (refl, tt))))))))))
+untold : (v : Version) (k : ℕ) → k < 10 → map view (layoutIn v k .fields) ≡ map unasked (layoutIn v k .fields)
+untold v = each (λ (k : ℕ). map view (layoutIn v k .fields) ≡ map unasked (layoutIn v k .fields)) 10 (refl, (refl, (refl, (refl, (refl, (refl, (refl, (refl, (refl, (refl, tt))))))))))
 
 abbrev head : View → List View → View
 head d [] = d
@@ -152,15 +163,18 @@ last k = getD ruled k 0
 abbrev free : List ℕ → List View
 free = map (λ (w : ℕ). view (wide w always any))
 
-abbrev tail : ℕ → List ℕ
-tail k = map (λ (f : View). f .width) (fieldsFrom codes (last k) (end k - last k))
+abbrev tail : Version → ℕ → List ℕ
+tail v k = map (λ (f : View). f .width) (fieldsFrom (codesIn v) (last k) (end k - last k))
 
--- what the code's tables say of a section is the section's layout
-from-table : (k : ℕ) → k < 10 → fieldsFrom codes (first k) (end k - first k) ≡ map view (layout k .fields)
-from-table = each (λ (k : ℕ). fieldsFrom codes (first k) (end k - first k) ≡ map view (layout k .fields)) 10 (refl, (refl, (refl, (refl, (refl, (refl, (refl, (refl, (refl, (refl, tt))))))))))
+-- what the code's tables say of a section of a version is the section's layout
+abbrev FromTable : Version → ℕ → Type 0
+FromTable v k =
+    (fieldsFrom (codesIn v) (first k) (end k - first k) ≡ map view (layoutIn v k .fields))
+    × (fieldsFrom (codesIn v) (first k) (last k - first k) ++ free (tail v k) ≡ map view (layoutIn v k .fields))
 
-from-ruled : (k : ℕ) → k < 10 → fieldsFrom codes (first k) (last k - first k) ++ free (tail k) ≡ map view (layout k .fields)
-from-ruled = each (λ (k : ℕ). fieldsFrom codes (first k) (last k - first k) ++ free (tail k) ≡ map view (layout k .fields)) 10 (refl, (refl, (refl, (refl, (refl, (refl, (refl, (refl, (refl, (refl, tt))))))))))
+from-table : (v : Version) (k : ℕ) → k < 10 → FromTable v k
+from-table version.One = each (FromTable version.One) 10 ((refl, refl), ((refl, refl), ((refl, refl), ((refl, refl), ((refl, refl), ((refl, refl), ((refl, refl), ((refl, refl), ((refl, refl), ((refl, refl), tt))))))))))
+from-table version.Two = each (FromTable version.Two) 10 ((refl, refl), ((refl, refl), ((refl, refl), ((refl, refl), ((refl, refl), ((refl, refl), ((refl, refl), ((refl, refl), ((refl, refl), ((refl, refl), tt))))))))))
 
 pub stops : (b : Bool) (k : ℕ) → k < 10 → cond b (last k) (end k) ≤ 63
 stops true k h = leb-true (last k) 63 (each (λ (j : ℕ). leb (last j) 63 ≡ true) 10 (refl, (refl, (refl, (refl, (refl, (refl, (refl, (refl, (refl, (refl, tt)))))))))) k h)
@@ -183,19 +197,19 @@ without-free (f ∷ fs) ws c s p h =
 
 -- a record up to its last rule, where it is whole, and up to its end otherwise, is judged as the record is
 pub enough :
-    (k w : ℕ) (t : List ℕ) (boxes : Bool) (s : List ℕ) (p : ℕ)
+    (v : Version) (k w : ℕ) (t : List ℕ) (boxes : Bool) (s : List ℕ) (p : ℕ)
     → k < 10
     → p ≤ length s
-    → judgeViews (begin w t boxes) s p (fieldsFrom codes (first k) (cond (leb (size k) (length s - p)) (last k) (end k) - first k))
-    ≡ judgeFields (begin w t boxes) s p (layout k .fields)
-enough k w t boxes s p h l = go (leb (size k) (length s - p)) refl ∙ by-views (layout k .fields) (untold k h) (begin w t boxes) s p
+    → judgeViews (begin w t boxes) s p (fieldsFrom (codesIn v) (first k) (cond (leb (sizeIn v k) (length s - p)) (last k) (end k) - first k))
+    ≡ judgeFields (begin w t boxes) s p (layoutIn v k .fields)
+enough v k w t boxes s p h l = go (leb (sizeIn v k) (length s - p)) refl ∙ by-views (layoutIn v k .fields) (untold v k h) (begin w t boxes) s p
   where
     go :
         (b : Bool)
-        → leb (size k) (length s - p) ≡ b
-        → judgeViews (begin w t boxes) s p (fieldsFrom codes (first k) (cond b (last k) (end k) - first k))
-        ≡ judgeViews (begin w t boxes) s p (map view (layout k .fields))
+        → leb (sizeIn v k) (length s - p) ≡ b
+        → judgeViews (begin w t boxes) s p (fieldsFrom (codesIn v) (first k) (cond b (last k) (end k) - first k))
+        ≡ judgeViews (begin w t boxes) s p (map view (layoutIn v k .fields))
     go true e =
-        let w : p + bytes (map view (layout k .fields)) ≤ length s = omega (arith, leb-true (size k) (length s - p) e, bytes-total (layout k .fields)) in
-        without-free _ (tail k) _ s p (rw (from-ruled k h) w) ∙ rw (from-ruled k h)
-    go false e = rw (from-table k h)
+        let w : p + bytes (map view (layoutIn v k .fields)) ≤ length s = omega (arith, leb-true (sizeIn v k) (length s - p) e, bytes-total (layoutIn v k .fields)) in
+        without-free _ (tail v k) _ s p (rw (from-table v k h .1) w) ∙ rw (from-table v k h .1)
+    go false e = rw (from-table v k h .0)

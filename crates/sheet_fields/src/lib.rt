@@ -1,6 +1,7 @@
 // Records judged field by field, by one table of fields.
 use ray_tracing::Judged;
 use ray_tracing::SheetError;
+use ray_tracing::Version;
 use ray_tracing::both;
 use ray_tracing::either;
 use ray_tracing::pick;
@@ -17,7 +18,7 @@ ghost use Prim.Native.Nat.{ℕ, _+_, _-_, _*_, _/_, _%_, _≤_, _<_};
 ghost use mathlib.Core.List.{List};
 ghost use lib.ListN.{length, getD};
 ghost use Rattle.wire.specs.Wire.{leAt};
-ghost use Rattle.ray_tracing.specs.Layout.{layout};
+ghost use Rattle.ray_tracing.specs.Layout.{layoutIn, offsetWidth};
 ghost use Rattle.ray_tracing.specs.Reading.{begin, judgeFields, judgeRecords};
 ghost use Rattle.ray_tracing.specs.Code.{judgedOf};
 ghost use Rattle.sheet_fields.specs.Table.{firsts, ruled, seen, judgeViews, ruleOf, fieldsFrom, isWidth, Widths};
@@ -66,7 +67,7 @@ const FIELDS: [u8; 63] = [
     // 6. geometries
     0x10, // flags
     0x40, // count
-    0x40, // first vertex or primitive offset
+    0x40, // first vertex or primitive offset, as version 1 has it
     0x80, // stride
     0x22, // buffer: not 65535
     0x10, // vertex format
@@ -104,6 +105,9 @@ const FIELDS: [u8; 63] = [
     0x20, // operand
 ];
 
+// Which of them is the geometries' offset.
+const OFFSET: usize = 30;
+
 // Where a section's fields begin, and end where the next one's do.
 const FIRST: [usize; 11] = [0, 2, 4, 11, 20, 25, 28, 43, 45, 61, 63];
 
@@ -122,6 +126,16 @@ fn ruled_of(section: usize) -> usize
     ensures { λ r. ⌜ r ≡ getD ruled section 0 ⌝ }
 {
     RULED[section]
+}
+
+// The geometries' offset: any value, of the width that the version gives it.
+fn offset_field(version: Version) -> u8
+    ensures { λ r. ⌜ r ≡ 16 * offsetWidth version ⌝ }
+{
+    match version {
+        Version::One => 0x40,
+        Version::Two => 0x80,
+    }
 }
 
 fn number_at(s: &[u8], at: usize, width: usize) -> u64
@@ -225,6 +239,7 @@ fn judge_fields(
 
 // A record by the table of fields. In a record that is whole the fields after the last rule need no look.
 fn judge_by_table(
+    version: Version,
     s: &[u8],
     at: usize,
     section: usize,
@@ -235,20 +250,22 @@ fn judge_by_table(
 ) -> Judged
     requires { ⌜ ((at ≤ length (now s)) × (section < 10)) × (count ≡ length (now before) / each) ⌝ }
     ensures { λ r. ⌜
-        judgedOf r ≡ judgeFields (begin each (now (before .entry)) boxes) (now (s .entry)) at (layout section .fields)
+        judgedOf r ≡ judgeFields (begin each (now (before .entry)) boxes) (now (s .entry)) at (layoutIn version section .fields)
         ⌝ }
 {
-    let fields = FIELDS;
+    let mut fields = FIELDS;
+    fields[OFFSET] = offset_field(version);
     let first = first_of(section);
     let end = first_of(section + 1);
     let ruled = ruled_of(section);
-    let size = size_of(section);
+    let size = size_of(version, section);
     let stop = pick(size <= s.len() - at, ruled, end);
     judge_fields(s, at, &fields, first, stop, before, each, count, boxes)
 }
 
 // One record: nearly every one is whole and fits.
 fn judge_record(
+    version: Version,
     s: &[u8],
     at: usize,
     section: usize,
@@ -259,20 +276,21 @@ fn judge_record(
 ) -> Judged
     requires { ⌜ ((at ≤ length (now s)) × (section < 10)) × (count ≡ length (now before) / each) ⌝ }
     ensures { λ r. ⌜
-        judgedOf r ≡ judgeFields (begin each (now (before .entry)) boxes) (now (s .entry)) at (layout section .fields)
+        judgedOf r ≡ judgeFields (begin each (now (before .entry)) boxes) (now (s .entry)) at (layoutIn version section .fields)
         ⌝ }
 {
-    let size = size_of(section);
+    let size = size_of(version, section);
     if size <= s.len() - at {
-        if record_fits(s, at, section, before, each, count, boxes) {
+        if record_fits(version, s, at, section, before, each, count, boxes) {
             return Judged::Fine;
         }
     }
-    judge_by_table(s, at, section, before, each, count, boxes)
+    judge_by_table(version, s, at, section, before, each, count, boxes)
 }
 
 // n records of a section, from a place on.
 pub fn judge_records(
+    version: Version,
     s: &[u8],
     at: usize,
     n: usize,
@@ -283,15 +301,15 @@ pub fn judge_records(
 ) -> Judged
     requires { ⌜ (at ≤ length (now s)) × (section < 10) ⌝ }
     ensures { λ r. ⌜
-        judgedOf r ≡ judgeRecords (begin each (now (before .entry)) boxes) (layout section .fields) (now (s .entry)) at n
+        judgedOf r ≡ judgeRecords (begin each (now (before .entry)) boxes) (layoutIn version section .fields) (now (s .entry)) at n
         ⌝ }
 {
-    let size = size_of(section);
+    let size = size_of(version, section);
     let count = records_in(before.len(), each);
     let mut p = at;
     let mut left = n;
     while 0 < left {
-        let judged = judge_record(s, p, section, before, each, count, boxes);
+        let judged = judge_record(version, s, p, section, before, each, count, boxes);
         let Judged::Fine = judged else {
             return judged;
         };

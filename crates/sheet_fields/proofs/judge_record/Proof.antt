@@ -10,7 +10,7 @@ returns : tie.Need-returns
 returns c =
     let a = c .before .before .before .before .before .before .args in
     let s = c .before .before .before .size-of .ensures in
-    sym (fits-fine (a .section) _ (a .s .now) (a .at) (rw (← s) (omega arith)) (sym (c .before .record-fits .ensures) ∙ c .if2 .taken))
+    sym (fits-fine (a .version) (a .section) _ (a .s .now) (a .at) (rw (← s) (omega arith)) (sym (c .before .record-fits .ensures) ∙ c .if2 .taken))
 
 pub judge-record-spec : {M : Type 1} → statement M
 judge-record-spec =

@@ -4,7 +4,7 @@ use native.Mathlib.Omega.{arith}
 use mathlib.Core.Path.{_≡_, refl, sym, ap, _∙_}
 use lib.ListN.{length}
 use borrow.Author.Needs.{needs}
-use Rattle.ray_tracing.specs.Layout.{layout}
+use Rattle.ray_tracing.specs.Layout.{layoutIn}
 use Rattle.ray_tracing.specs.Reading.{fine, begin, judgeFields, judgeRecords}
 use Rattle.ray_tracing.specs.Code.{judgedOf}
 use Rattle.ray_tracing.proofs.Reading.{fields-whole, record-fine, record-refused}
@@ -12,12 +12,12 @@ use Rattle.sheet_fields.proofs.judge_records.Statement.{statement}
 use Rattle.sheet_fields.proofs.judge_records.Tie as tie
 
 abbrev Inv-loop : tie.InvT-loop
-Inv-loop s at n section before each boxes size count p₀ left₀ p left =
+Inv-loop version s at n section before each boxes size count p₀ left₀ p left =
     (p ≤ length s)
-    × (judgeRecords (begin each before boxes) (layout section .fields) s p left ≡ judgeRecords (begin each before boxes) (layout section .fields) s at n)
+    × (judgeRecords (begin each before boxes) (layoutIn version section .fields) s p left ≡ judgeRecords (begin each before boxes) (layoutIn version section .fields) s at n)
 
 abbrev μ-loop : tie.MeasureT-loop
-μ-loop s at n section before each boxes size count p₀ left₀ p left = left
+μ-loop version s at n section before each boxes size count p₀ left₀ p left = left
 
 judge-record-requires : tie.Need-judge-record-requires Inv-loop μ-loop
 judge-record-requires c κs = ((c .before .loop .inv .0, search needs), c .before .before .records-in .ensures)
@@ -33,7 +33,7 @@ module _ (c : tie.After-enum-told Inv-loop μ-loop) where
       (begin (c .before .before .before .before .before .before .before .before .before .args .each) (c .before .before .before .before .before .before .before .before .before .args .before .now) (c .before .before .before .before .before .before .before .before .before .args .boxes))
       (c .before .before .before .before .before .before .before .before .before .args .s .now)
       (c .before .before .before .before .loop .p)
-      (layout (c .before .before .before .before .before .before .before .before .before .args .section) .fields)
+      (layoutIn (c .before .before .before .before .before .before .before .before .before .args .version) (c .before .before .before .before .before .before .before .before .before .args .section) .fields)
       ≡ fine
   accepted = sym (c .before .before .judge-record .ensures) ∙ ap judgedOf (c .enum-told .given .1)
 
@@ -46,7 +46,7 @@ loop-again c =
     let l = c .before .before .before .before .loop in (
       after c,
       rw (c .before .before .before .before .before .before .size-of .ensures)
-          (sym (record-fine _ (layout (a .section) .fields) (a .s .now) (l .left) (l .p) (c .before .before .before .loop-test .taken) (accepted c)) ∙ l .inv .1),
+          (sym (record-fine _ (layoutIn (a .version) (a .section) .fields) (a .s .now) (l .left) (l .p) (c .before .before .before .loop-test .taken) (accepted c)) ∙ l .inv .1),
     )
 
 returns-2 : tie.Need-returns-2 Inv-loop μ-loop
