@@ -324,6 +324,119 @@ fn written_anew(name: &str, what: &str, raw: &Raw) -> Anew {
     Anew { name: name.into(), what: what.into(), ours, read, copy }
 }
 
+/// Nanoseconds of a sheet converted; of the same in plain Rust, judged by the oracle's reader and then record by record in a loop; of that
+/// loop alone; and of a plain memory copy of the sheet's bytes.
+struct Converted {
+    name: String,
+    what: String,
+    ours: f64,
+    rust: f64,
+    looped: f64,
+    copy: f64,
+}
+
+/// A sheet whose geometries are known to begin at a byte, in version 2, record by record and unjudged: what a caller would write.
+fn widen(sheet: &[u8], (start, count): (usize, usize), out: &mut [u8]) -> bool {
+    let (old, new) = (SIZES[GEOMETRIES], Version::Two.size(GEOMETRIES));
+    let (end, after) = (start + count * old, start + count * new);
+    out[..start].copy_from_slice(&sheet[..start]);
+    for (r, o) in sheet[start..end].chunks_exact(old).zip(out[start..after].chunks_exact_mut(new)) {
+        o[..9].copy_from_slice(&r[..9]);
+        o[9..13].fill(0);
+        o[13..].copy_from_slice(&r[9..]);
+    }
+    out[after..].copy_from_slice(&sheet[end..]);
+    out[0] = 2;
+    true
+}
+
+/// The way back; `false` where an offset doesn't fit.
+fn narrow(sheet: &[u8], (start, count): (usize, usize), out: &mut [u8]) -> bool {
+    let (old, new) = (Version::Two.size(GEOMETRIES), SIZES[GEOMETRIES]);
+    let (end, after) = (start + count * old, start + count * new);
+    out[..start].copy_from_slice(&sheet[..start]);
+    for (r, o) in sheet[start..end].chunks_exact(old).zip(out[start..after].chunks_exact_mut(new)) {
+        if r[9..13] != [0; 4] {
+            return false;
+        }
+        o[..9].copy_from_slice(&r[..9]);
+        o[9..].copy_from_slice(&r[13..]);
+    }
+    out[after..].copy_from_slice(&sheet[end..]);
+    out[0] = 1;
+    true
+}
+
+fn converted_row(to: Version) -> Converted {
+    let raw = tables(&FULL);
+    let (one, two) = (raw.sheet(), Raw { version: 2, ..raw }.sheet());
+    assert_eq!((one.len(), two.len()), (56_415, 57_439));
+    let (name, what, sheet, expected) = match to {
+        Version::Two => ("to-2", "a full sheet of 56,415 bytes to version 2", one, two),
+        Version::One => ("to-1", "and back, from 57,439 bytes", two, one),
+    };
+    let convert = |sheet: &[u8], out: &mut [u8]| match to {
+        Version::Two => zakvind::raw::to_version_2(sheet, out),
+        Version::One => zakvind::raw::to_version_1(sheet, out),
+    };
+    let by_loop = |sheet: &[u8], place: (usize, usize), out: &mut [u8]| match to {
+        Version::Two => widen(sheet, place, out),
+        Version::One => narrow(sheet, place, out),
+    };
+    let judged = |sheet: &[u8], out: &mut [u8]| paper::read_sheet(sheet).is_ok_and(|p| by_loop(sheet, p.sections[GEOMETRIES], out));
+    let place = paper::read_sheet(&sheet).unwrap().sections[GEOMETRIES];
+    let (mut out, mut by_rust, mut target) = (vec![1u8; expected.len()], vec![2u8; expected.len()], vec![3u8; sheet.len()]);
+    let mut looped = by_rust.clone();
+    assert_eq!(convert(&sheet, &mut out).written as usize, expected.len(), "{name}");
+    assert!(judged(&sheet, &mut by_rust) && out == expected && by_rust == expected, "{name}");
+    let [ours, rust, looped, copy] = times(
+        [
+            &mut || {
+                black_box(convert(black_box(&sheet), black_box(&mut out)));
+            },
+            &mut || {
+                black_box(judged(black_box(&sheet), black_box(&mut by_rust)));
+            },
+            &mut || {
+                black_box(by_loop(black_box(&sheet), black_box(place), black_box(&mut looped)));
+            },
+            &mut || black_box(&mut target).copy_from_slice(black_box(&sheet)),
+        ],
+        &mut || {},
+    );
+    Converted { name: name.into(), what: what.into(), ours, rust, looped, copy }
+}
+
+/// Nanoseconds of a build with geometries of version 1, and of the same with those of version 2.
+struct Wide {
+    name: String,
+    what: String,
+    narrow: f64,
+    wide: f64,
+}
+
+fn wide_row(name: &str, what: &str, shape: &Shape) -> Wide {
+    let raw = tables(shape);
+    let tables = [raw.tables(), Raw { version: 2, ..raw }.tables()];
+    let [one, two]: [[&[u8]; 8]; 2] = std::array::from_fn(|v| std::array::from_fn(|s| &tables[v][s][..]));
+    let (mut first, mut second) = (Out::new(), Out::new());
+    let (a, b) = (zakvind::raw::build(256, one, first.lend()), zakvind::raw::build_wide(256, two, second.lend()));
+    assert_eq!((a.number, a.recorded), (0, 1), "{name}");
+    assert_eq!(a, b, "{name}");
+    let [narrow, wide] = times(
+        [
+            &mut || {
+                black_box(zakvind::raw::build(256, black_box(one), first.lend()));
+            },
+            &mut || {
+                black_box(zakvind::raw::build_wide(256, black_box(two), second.lend()));
+            },
+        ],
+        &mut || {},
+    );
+    Wide { name: name.into(), what: what.into(), narrow, wide }
+}
+
 /// Nanoseconds of groups opened, and of a plain memory copy of the same slots.
 struct Groups {
     name: String,
@@ -505,8 +618,8 @@ fn build_row(name: &str, what: &str, shape: &Shape) -> Row {
     let raw = tables(shape);
     let t = raw.tables();
     let lent: [&[u8]; 8] = std::array::from_fn(|s| &t[s][..]);
-    paper::judge_tables(256, lent).unwrap();
-    let input = paper::input(256, 1, lent);
+    paper::judge_tables(Version::One, 256, lent).unwrap();
+    let input = paper::input(Version::One, 256, 1, lent);
     let (world, sizes) = (World::new(&input), Sizes::new(&input));
     let buffered = std::cell::RefCell::new(Buffered::new());
     let mut out = Out::new();
@@ -518,7 +631,7 @@ fn build_row(name: &str, what: &str, shape: &Shape) -> Row {
     let [rust, made, ours] = times(
         [
             &mut || {
-                let (entries, packages) = paper::drawn(black_box(lent[4]), lent[5], lent[6], lent[7]);
+                let (entries, packages) = paper::drawn(Version::One, black_box(lent[4]), lent[5], lent[6], lent[7]);
                 let drawn = Input { entries, packages, ..Input::default() };
                 black_box(buffered.borrow_mut().build(black_box(&world), &drawn, &Sizes::new(&drawn)));
             },
@@ -618,7 +731,7 @@ fn submit_row(n: usize) -> Row {
         raw.push(TLASES, &[0, 0, 0, 512, 1]);
     }
     let (mut blases, mut tlases) = (raw.table(BLASES), raw.table(TLASES));
-    let input = paper::input(1, 5, [&[], &blases, &[], &tlases, &[], &[], &[], &[]]);
+    let input = paper::input(Version::One, 1, 5, [&[], &blases, &[], &tlases, &[], &[], &[], &[]]);
     let world = World::new(&input);
     let submission = Submission::new(acts.iter().map(|a| drive::action(&world, a).unwrap()).collect());
     let (mut counts, mut dependencies) = ([0u16; 4], vec![0u16; 512 * 4]);
@@ -705,6 +818,12 @@ fn main() {
         written_anew("write-full", "a full sheet, nearly all of it used", &tables(&FULL)),
         written_anew("write-unused", "a full sheet of boxes and absent slots", &unused()),
     ];
+    let converted = [Version::Two, Version::One].map(converted_row);
+    let wides = [
+        wide_row("wide-small", "build of small tables", &SMALL),
+        wide_row("wide-typical", "build of typical tables", &TYPICAL),
+        wide_row("wide-full", "build of full tables: 256 geometries", &FULL),
+    ];
     let (groups, refused) = groups_rows();
     let roundings = [
         rounding_row("round-full", "build of full tables: 64 entries, 32 packages", &tables(&FULL)),
@@ -731,6 +850,17 @@ fn main() {
     for r in &anew {
         let times = [r.ours, r.read, r.copy].map(micro).join(" | ");
         let _ = writeln!(writing, "| {} | {times} | {:.2} | {:.2} |", r.what, r.ours / r.read, r.ours / r.copy);
+    }
+    let mut converting = String::new();
+    for r in &converted {
+        let times = [r.ours, r.rust, r.looped, r.copy].map(micro).join(" | ");
+        let ratios = [r.rust / r.ours, r.ours / r.looped, r.ours / r.copy].map(|x| format!("{x:.2}")).join(" | ");
+        let _ = writeln!(converting, "| {} | {times} | {ratios} |", r.what);
+    }
+    let mut wide = String::new();
+    for r in &wides {
+        let times = [r.narrow, r.wide].map(micro).join(" | ");
+        let _ = writeln!(wide, "| {} | {times} | {:.2} |", r.what, r.wide / r.narrow);
     }
     let mut opening = String::new();
     let typed = groups.last().map_or(0.0, |r| r.ours);
@@ -783,6 +913,12 @@ fn main() {
          tell whether two sheets agree. The ratios are ours / reading and ours / copy; it judges the sheet as reading does, and then writes it \
          section by section.\n\n\
          | What | writing | reading | copy | to reading | to a copy |\n|---|---|---|---|---|---|\n{writing}\n\
+         A sheet in the other version, against the same in plain Rust (judged by the reader below, then widened or narrowed record by record), \
+         against that loop alone, which judges nothing, and a plain memory copy of the sheet's bytes. The ratios are judged / ours, ours / loop \
+         and ours / copy; ours judges the sheet as reading does, and then writes it.\n\n\
+         | What | ours | Rust, judged | loop alone | copy | ratio | to the loop | to a copy |\n|---|---|---|---|---|---|---|---|\n{converting}\n\
+         Builds with the geometries of version 2, 48 bytes each, beside the same with those of version 1; the ratio is wide / narrow.\n\n\
+         | What | narrow | wide | ratio |\n|---|---|---|---|\n{wide}\n\
          512 slots opened from groups, against a plain memory copy of the same 28,672 bytes, which is what a caller has who keeps them written \
          out, and against opening one group that has them so. The ratios are ours / copy and ours / written out; all groups are judged, then \
          the places of the slots are found, then the slots are copied.\n\n\
@@ -851,6 +987,14 @@ fn main() {
     for r in &anew {
         println!("write {} {:.2}", r.name, r.ours / r.read);
         println!("copy {} {:.2}", r.name, r.ours / r.copy);
+    }
+    for r in &converted {
+        println!("convert {} {:.2}", r.name, r.rust / r.ours);
+        println!("loop {} {:.2}", r.name, r.ours / r.looped);
+        println!("copy {} {:.2}", r.name, r.ours / r.copy);
+    }
+    for r in &wides {
+        println!("wide {} {:.2}", r.name, r.wide / r.narrow);
     }
     for r in &groups {
         println!("copy {} {:.2}", r.name, r.ours / r.copy);
