@@ -4,7 +4,7 @@ use native.Mathlib.Omega.{arith}
 use mathlib.Core.Path.{_≡_, refl, sym, ap, _∙_}
 use lib.ListN.{length}
 use borrow.Author.Needs.{needs}
-use Rattle.ray_tracing.specs.Layout.{layout, size}
+use Rattle.ray_tracing.specs.Layout.{layoutIn, size}
 use Rattle.ray_tracing.specs.Reading.{fine, begin, ofBoxes, drawnCount, judgeRecords, judgeDrawn}
 use Rattle.ray_tracing.specs.Code.{judgedOf}
 use Rattle.ray_tracing.proofs.Reading.{records-whole, drawn-fine, drawn-refused}
@@ -12,13 +12,13 @@ use Rattle.sheet_sections.proofs.judge_drawn.Statement.{statement}
 use Rattle.sheet_sections.proofs.judge_drawn.Tie as tie
 
 abbrev Inv-loop : tie.InvT-loop
-Inv-loop s at entries each w p₀ q₀ left₀ p q left =
+Inv-loop version s at entries each w p₀ q₀ left₀ p q left =
     (p ≤ length s)
     × ((q + size 5 * left ≤ length entries)
-    × (judgeDrawn (layout 6 .fields) entries q s p left ≡ judgeDrawn (layout 6 .fields) entries 0 s at (length entries / size 5)))
+    × (judgeDrawn (layoutIn version 6 .fields) entries q s p left ≡ judgeDrawn (layoutIn version 6 .fields) entries 0 s at (length entries / size 5)))
 
 abbrev μ-loop : tie.MeasureT-loop
-μ-loop s at entries each w p₀ q₀ left₀ p q left = left
+μ-loop version s at entries each w p₀ q₀ left₀ p q left = left
 
 loop-holds : tie.Need-loop-holds Inv-loop μ-loop
 loop-holds c = rw (c .before .size-of .ensures) (omega arith, (omega arith, refl))
@@ -29,7 +29,7 @@ judged :
     → judgedOf (d .judge-records .result)
     ≡ judgeRecords
     (begin (size 5) (d .before .before .before .before .before .before .before .before .before .args .entries .now) (ofBoxes (d .before .before .before .before .before .before .before .before .before .args .entries .now) (d .before .before .before .before .loop .q)))
-    (layout 6 .fields)
+    (layoutIn (d .before .before .before .before .before .before .before .before .before .args .version) 6 .fields)
     (d .before .before .before .before .before .before .before .before .before .args .s .now)
     (d .before .before .before .before .loop .p)
     (drawnCount (d .before .before .before .before .before .before .before .before .before .args .entries .now) (d .before .before .before .before .loop .q))
@@ -39,7 +39,7 @@ module _ (c : tie.After-enum-told Inv-loop μ-loop) where
   accepted :
       judgeRecords
       (begin (size 5) (c .before .before .before .before .before .before .before .before .before .before .before .args .entries .now) (ofBoxes (c .before .before .before .before .before .before .before .before .before .before .before .args .entries .now) (c .before .before .before .before .before .before .loop .q)))
-      (layout 6 .fields)
+      (layoutIn (c .before .before .before .before .before .before .before .before .before .before .before .args .version) 6 .fields)
       (c .before .before .before .before .before .before .before .before .before .before .before .args .s .now)
       (c .before .before .before .before .before .before .loop .p)
       (drawnCount (c .before .before .before .before .before .before .before .before .before .before .before .args .entries .now) (c .before .before .before .before .before .before .loop .q))
@@ -49,12 +49,12 @@ module _ (c : tie.After-enum-told Inv-loop μ-loop) where
   after : c .before .before .before .before .before .before .loop .p + c .before .before .before .u16-at .result * c .before .before .before .before .before .before .before .size-of2 .result ≤ length (c .before .before .before .before .before .before .before .before .before .before .before .args .s .now)
   after =
       rw (c .before .before .before .u16-at .ensures, c .before .before .before .before .before .before .before .size-of2 .ensures)
-      (records-whole _ (layout 6 .fields) _ _ (c .before .before .before .before .before .before .loop .p) (c .before .before .before .before .before .before .loop .inv .0) accepted)
+      (records-whole _ (layoutIn (c .before .before .before .before .before .before .before .before .before .before .before .args .version) 6 .fields) _ _ (c .before .before .before .before .before .before .loop .p) (c .before .before .before .before .before .before .loop .inv .0) accepted)
 
 returns : tie.Need-returns Inv-loop μ-loop
 returns c =
     let l = c .before .before .before .before .before .before .loop in
-    drawn-refused (layout 6 .fields) _ _ (l .q) _ (l .left) (l .p) _ _ (c .before .before .before .before .before .loop-test .taken) (judged (c .before .before)) (ap judgedOf (c .enum-told2 .given .1))
+    drawn-refused (layoutIn (c .before .before .before .before .before .before .before .before .before .before .before .args .version) 6 .fields) _ _ (l .q) _ (l .left) (l .p) _ _ (c .before .before .before .before .before .loop-test .taken) (judged (c .before .before)) (ap judgedOf (c .enum-told2 .given .1))
     ∙ l .inv .1 .1
 
 loop-again : tie.Need-loop-again Inv-loop μ-loop
@@ -64,7 +64,7 @@ loop-again c =
       (
         omega (arith, c .before .before .before .before .before .before .before .before .size-of .ensures),
         rw (c .before .before .before .u16-at .ensures, c .before .before .before .before .before .before .before .size-of2 .ensures, c .before .before .before .before .before .before .before .before .size-of .ensures)
-            (sym (drawn-fine (layout 6 .fields) _ _ (l .q) (l .left) (l .p) (c .before .before .before .before .before .loop-test .taken) (accepted c)) ∙ l .inv .1 .1),
+            (sym (drawn-fine (layoutIn (c .before .before .before .before .before .before .before .before .before .before .before .args .version) 6 .fields) _ _ (l .q) (l .left) (l .p) (c .before .before .before .before .before .loop-test .taken) (accepted c)) ∙ l .inv .1 .1),
       ),
     )
 

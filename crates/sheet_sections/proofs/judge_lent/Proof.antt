@@ -2,11 +2,13 @@
 use Prim.Native.Nat.{ℕ, _*_, _/_, _%_, _≤_, _<_}
 use native.Mathlib.Nat.{div-add-mod'}
 use native.Mathlib.Omega.{arith}
-use mathlib.Core.Path.{_≡_}
+use mathlib.Core.Path.{_≡_, sym, _∙_}
 use borrow.Author.Needs.{needs}
 use borrow.Author.Tests.{lt-ltb, le-ltb, eq-eqb, ne-eqb, not-true, not-false}
+use Rattle.ray_tracing.specs.Layout.{layoutIn}
 use Rattle.ray_tracing.specs.Reading.{judgeLent}
-use Rattle.sheet_layout.proofs.Laws.{size-positive}
+use Rattle.ray_tracing.proofs.Each.{size-positive}
+use Rattle.ray_tracing.proofs.Versions.{most-same}
 use Rattle.sheet_sections.proofs.judge_lent.Statement.{statement}
 use Rattle.sheet_sections.proofs.judge_lent.Tie as tie
 
@@ -22,7 +24,11 @@ module _ (n l w : ℕ) (e : n ≡ l / w) where
   none-left h = let k = rw e at h in omega (arith, div-add-mod' l w)
 
 positive : (c : tie.After-size-of) → 0 < c .size-of .result
-positive c = rw (c .size-of .ensures) (size-positive (c .before .before .before .args .section) (search needs))
+positive c = rw (c .size-of .ensures) (size-positive (c .before .before .before .args .version) (c .before .before .before .args .section) (search needs))
+
+-- the limit is the same in either version
+most : (c : tie.After-most-of) → layoutIn (c .before .before .before .before .before .args .version) (c .before .before .before .before .before .args .section) .most ≡ c .most-of .result
+most c = most-same (c .before .before .before .before .before .args .version) (c .before .before .before .before .before .args .section) ∙ sym (c .most-of .ensures)
 
 returns : tie.Need-returns
 unfolding judgeLent
@@ -30,7 +36,7 @@ returns c =
     rw (
       ← c .before .before .before .size-of .ensures,
       ← c .before .before .records-in .ensures,
-      ← c .before .most-of .ensures,
+      most (c .before),
       lt-ltb _ _ (c .if1 .taken),
     )
 
@@ -40,7 +46,7 @@ returns-2 c =
     rw (
       ← c .before .before .before .before .before .size-of .ensures,
       ← c .before .before .before .before .records-in .ensures,
-      ← c .before .before .before .most-of .ensures,
+      most (c .before .before .before),
       le-ltb _ _ (c .before .before .if1 .left),
       ← c .before .adds-up .ensures,
       not-true (c .before .adds-up .result) (c .if2 .taken),
@@ -52,7 +58,7 @@ returns-3 c =
     rw (
       ← c .before .before .before .before .before .before .before .before .before .before .size-of .ensures,
       ← c .before .before .before .before .before .before .before .before .before .records-in .ensures,
-      ← c .before .before .before .before .before .before .before .before .most-of .ensures,
+      most (c .before .before .before .before .before .before .before .before),
       le-ltb _ _ (c .before .before .before .before .before .before .before .if1 .left),
       ← c .before .before .before .before .before .before .adds-up .ensures,
       not-false (c .before .before .before .before .before .before .adds-up .result) (c .before .before .before .before .before .if2 .left),
@@ -67,7 +73,7 @@ returns-4 c =
     rw (
       ← c .before .before .before .before .before .before .before .before .before .before .size-of .ensures,
       ← c .before .before .before .before .before .before .before .before .before .records-in .ensures,
-      ← c .before .before .before .before .before .before .before .before .most-of .ensures,
+      most (c .before .before .before .before .before .before .before .before),
       le-ltb _ _ (c .before .before .before .before .before .before .before .if1 .left),
       ← c .before .before .before .before .before .before .adds-up .ensures,
       not-false (c .before .before .before .before .before .before .adds-up .result) (c .before .before .before .before .before .if2 .left),
@@ -83,7 +89,7 @@ returns-5 c =
     rw (
       ← c .before .before .before .before .before .before .before .before .before .before .size-of .ensures,
       ← c .before .before .before .before .before .before .before .before .before .records-in .ensures,
-      ← c .before .before .before .before .before .before .before .before .most-of .ensures,
+      most (c .before .before .before .before .before .before .before .before),
       le-ltb _ _ (c .before .before .before .before .before .before .before .if1 .left),
       ← c .before .before .before .before .before .before .adds-up .ensures,
       not-false (c .before .before .before .before .before .before .adds-up .result) (c .before .before .before .before .before .if2 .left),

@@ -9,6 +9,6 @@ judge-table-spec =
     tie.close
     (tie.spec
     (λ c κs. search needs)
-    (λ c. rw (eq-eqb _ 6 (c .before .if1 .taken), c .before .if1 .taken) (c .judge-drawn .ensures))
+    (λ c. rw (eq-eqb _ 6 (c .before .if1 .taken)) (c .judge-drawn .ensures))
     (λ c κs. search needs)
-    (λ c. rw (ne-eqb _ 6 (c .before .if1 .left)) (c .judge-records .ensures)))
+    (λ c. rw (ne-eqb _ 6 (c .before .if1 .left)) (rw (ne-eqb _ 6 (c .before .if1 .left)) at (c .judge-records .ensures))))
