@@ -9,7 +9,7 @@ use lib.ListN.{length, getD, set, length-set}
 use lib.Seq.{getD-set-same, getD-set-other}
 use borrow.Author.Tests.{lt-ltb, le-ltb, ltb-true, ltb-false, eqb-true, eqb-false}
 use Rattle.wire.specs.Wire.{leAt}
-use Rattle.ray_tracing.specs.Layout.{layout, size}
+use Rattle.ray_tracing.specs.Layout.{layout, size, sizeIn}
 use Rattle.ray_tracing.specs.Reading.{
   Judged,
   fine,
@@ -17,10 +17,12 @@ use Rattle.ray_tracing.specs.Reading.{
   judgedWhen,
   _andNext_,
   begin,
+  versionIn,
   past,
   from,
   judgeSection,
   judgeSections,
+  taken,
   judgeSheet,
   sectionOf,
   sheetOf,
@@ -59,7 +61,7 @@ module _ (s : List ℕ) where
     pub header-there : 1 + size 0 ≤ length s
     header-there =
         let x = or-fine (judgedWhen (ltb (length s) 1) (refused 2 0)) _ e in
-        let y = or-fine (judgedWhen (not (eqb (leAt 1 s 0) 1)) (refused 1 0)) _ (x .1) in
+        let y = or-fine (judgedWhen (not (taken (leAt 1 s 0))) (refused 1 0)) _ (x .1) in
         records-whole (begin 0 [] false) (layout 0 .fields) s 1 1 (ltb-false (length s) 1 (on-fine _ 2 0 (x .0))) (y .1)
 
 -- what a count that is read tells, and one that is not
@@ -131,7 +133,7 @@ module _ (s start count : List ℕ) (a p k : ℕ) (g : Known s start count a p k
   pub known-next :
       k < 9
       → judgeSection s k a p ≡ fine
-      → Known s (set start k (p + 2)) (set count k (leAt 2 s p)) (p + 2) (p + 2 + leAt 2 s p * size (k + 1)) (k + 1)
+      → Known s (set start k (p + 2)) (set count k (leAt 2 s p)) (p + 2) (p + 2 + leAt 2 s p * sizeIn (versionIn s) (k + 1)) (k + 1)
   known-next h f =
       let w = section-whole s k a p f in
       record {
@@ -172,7 +174,7 @@ module _ (s start count : List ℕ) (a p k : ℕ) (g : Known s start count a p k
     pub sheet-found : sheetFrom s start count ≡ sheetOf s
     sheet-found =
         λ i. record {
-          version = leAt 1 s 0;
+          version = versionIn s;
           alignment = leAt 4 s 1;
           counter = leAt 8 s 5;
           buffers = section-found 0 (omega arith) i;

@@ -2,18 +2,18 @@
 use Prim.Native.Nat.{ℕ}
 use mathlib.Core.Bool.{false, not}
 use mathlib.Core.List.{List, []}
-use lib.Dec.{eqb, ltb}
+use lib.Dec.{ltb}
 use lib.ListN.{length, getD}
 use Rattle.wire.specs.Wire.{leAt}
 use Rattle.ray_tracing.specs.Layout.{layout}
-use Rattle.ray_tracing.specs.Reading.{Judged, refused, judgedWhen, _andNext_, begin, judgeRecords}
+use Rattle.ray_tracing.specs.Reading.{Judged, refused, judgedWhen, _andNext_, begin, judgeRecords, versionIn, taken}
 use Rattle.ray_tracing.specs.declared.Section.{Section}
 use Rattle.ray_tracing.specs.declared.Sheet.{Sheet}
 
 abbrev pub judgeHeader : List ℕ → Judged
 judgeHeader s =
     judgedWhen (ltb (length s) 1) (refused 2 0)
-    andNext judgedWhen (not (eqb (leAt 1 s 0) 1)) (refused 1 0)
+    andNext judgedWhen (not (taken (leAt 1 s 0))) (refused 1 0)
     andNext judgeRecords (begin 0 [] false) (layout 0 .fields) s 1 1
 
 abbrev pub sectionIn : List ℕ → List ℕ → ℕ → Section
@@ -22,7 +22,7 @@ sectionIn start count k = record { start = getD start k 0; count = getD count k 
 abbrev pub sheetFrom : List ℕ → List ℕ → List ℕ → Sheet
 sheetFrom s start count =
     record {
-      version = leAt 1 s 0;
+      version = versionIn s;
       alignment = leAt 4 s 1;
       counter = leAt 8 s 5;
       buffers = sectionIn start count 0;

@@ -4,8 +4,10 @@ use ray_tracing::Section;
 use ray_tracing::Sheet;
 use ray_tracing::SheetError;
 use ray_tracing::SheetRead;
+use ray_tracing::either;
 use sheet_fields::judge_records;
 use sheet_layout::size_of;
+use sheet_layout::version_in;
 use sheet_sections::judge_section;
 use wire::u8_at;
 use wire::u16_at;
@@ -87,10 +89,11 @@ fn judge_header(sheet: &[u8]) -> Judged
     if sheet.len() < 1 {
         return Judged::Refused(SheetError::Truncated, 0);
     }
-    if u8_at(sheet, 0) != 1 {
+    let version = u8_at(sheet, 0);
+    if !either(version == 1, version == 2) {
         return Judged::Refused(SheetError::UnknownVersion, 0);
     }
-    judge_records(sheet, 1, 1, 0, &sheet[0..0], 0, false)
+    judge_records(version_in(sheet), sheet, 1, 1, 0, &sheet[0..0], 0, false)
 }
 
 fn section_at(start: [usize; 9], count: [usize; 9], k: usize) -> Section
@@ -109,7 +112,7 @@ fn sheet_from(sheet: &[u8], start: [usize; 9], count: [usize; 9]) -> Sheet
     ensures { λ r. ⌜ r ≡ sheetFrom (now (sheet .entry)) start count ⌝ }
 {
     Sheet {
-        version: u8_at(sheet, 0),
+        version: version_in(sheet),
         alignment: u32_at(sheet, 1),
         counter: u64_at(sheet, 5),
         buffers: section_at(start, count, 0),
@@ -132,7 +135,8 @@ pub fn read_sheet(sheet: &[u8]) -> SheetRead
     }
     let mut start = [0usize; 9];
     let mut count = [0usize; 9];
-    let mut p = 1 + size_of(0);
+    let version = version_in(sheet);
+    let mut p = 1 + size_of(version, 0);
     let mut a = p;
     let mut k = 0;
     while k < 9 {
@@ -146,7 +150,7 @@ pub fn read_sheet(sheet: &[u8]) -> SheetRead
         start[k] = a;
         count[k] = n as usize;
         k += 1;
-        p = a + n as usize * size_of(k);
+        p = a + n as usize * size_of(version, k);
     }
     if p < sheet.len() {
         return SheetRead::Refused(SheetError::TrailingBytes, p);

@@ -87,7 +87,15 @@ pub fn judge_lent(version: Version, table: &[u8], section: usize, before: &[u8])
     if !adds_up(section, before, n) {
         return Judged::Refused(SheetError::InvalidValue, 0);
     }
-    let judged = judge_table(version, table, 0, n, section, before, size_of(version, section - 1));
+    let judged = judge_table(
+        version,
+        table,
+        0,
+        n,
+        section,
+        before,
+        size_of(version, section - 1),
+    );
     if let Judged::Refused(e, place) = judged {
         return Judged::Refused(e, place / size);
     }
@@ -111,5 +119,13 @@ pub fn judge_section(sheet: &[u8], at: usize, k: usize, a: usize) -> Judged
         return Judged::Refused(SheetError::InvalidValue, at);
     }
     let version = version_in(sheet);
-    judge_table(version, sheet, at + 2, n, k + 1, before, size_of(version, k))
+    judge_table(
+        version,
+        sheet,
+        at + 2,
+        n,
+        k + 1,
+        before,
+        size_of(version, k),
+    )
 }

@@ -2,7 +2,7 @@
 use native.Mathlib.Omega.{arith}
 use lib.ListN.{length}
 use borrow.Author.Needs.{needs}
-use borrow.Author.Tests.{lt-ltb, le-ltb, eq-eqb, ne-eqb}
+use borrow.Author.Tests.{lt-ltb, le-ltb, not-true, not-false}
 use Rattle.sheet.proofs.judge_header.Statement.{statement}
 use Rattle.sheet.proofs.judge_header.Tie as tie
 
@@ -11,14 +11,20 @@ returns c = rw (lt-ltb (length (c .before .before .args .sheet .now)) 1 (c .if1 
 
 returns-2 : tie.Need-returns-2
 returns-2 c =
-    rw (le-ltb (length (c .before .before .before .before .args .sheet .now)) 1 (c .before .before .if1 .left), ← c .before .u8-at .ensures, ne-eqb _ 1 (c .if2 .taken))
+    rw (
+      le-ltb (length (c .before .before .before .before .before .args .sheet .now)) 1 (c .before .before .before .if1 .left),
+      ← c .before .before .u8-at .ensures,
+      ← c .before .either .ensures,
+      not-true (c .before .either .result) (c .if2 .taken),
+    )
 
 returns-3 : tie.Need-returns-3
 returns-3 c =
     rw (
-      le-ltb (length (c .before .before .before .before .before .before .args .sheet .now)) 1 (c .before .before .before .before .if1 .left),
-      ← c .before .before .before .u8-at .ensures,
-      eq-eqb _ 1 (c .before .before .if2 .left),
+      le-ltb (length (c .before .before .before .before .before .before .before .before .args .sheet .now)) 1 (c .before .before .before .before .before .before .if1 .left),
+      ← c .before .before .before .before .before .u8-at .ensures,
+      ← c .before .before .before .before .either .ensures,
+      not-false (c .before .before .before .before .either .result) (c .before .before .before .if2 .left),
     )
     (c .judge-records .ensures)
 
@@ -28,7 +34,9 @@ judge-header-spec =
     (tie.spec
     returns
     (λ c κs. search needs)
+    (λ c κs. search needs)
     returns-2
+    (λ c κs. search needs)
     (λ c. omega arith)
     (λ c. omega arith)
     (λ c. omega arith)

@@ -6,7 +6,7 @@ use Rattle.sheet.proofs.sheet_from.Tie as tie
 returns : tie.Need-returns
 returns c =
     λ i. record {
-      version = (c .before .before .before .before .before .before .before .before .before .before .before .u8-at .ensures) i;
+      version = (c .before .before .before .before .before .before .before .before .before .before .before .version-in .ensures) i;
       alignment = (c .before .before .before .before .before .before .before .before .before .before .u32-at .ensures) i;
       counter = (c .before .before .before .before .before .before .before .before .before .u64-at .ensures) i;
       buffers = (c .before .before .before .before .before .before .before .before .section-at .ensures) i;
