@@ -16,6 +16,7 @@ use ray_tracing::TLAS_SIZE;
 use ray_tracing::Tlas;
 use ray_tracing::TlasId;
 use ray_tracing::TlasPackage;
+use ray_tracing::Version;
 use wire::u8_at;
 use wire::u16_at;
 use wire::u32_at;
@@ -23,7 +24,8 @@ use wire::u64_at;
 ghost use mathlib.Core.Path.{_≡_};
 ghost use Prim.Native.Nat.{_+_, _*_, _/_, _≤_, _<_};
 ghost use lib.ListN.{length};
-ghost use Rattle.ray_tracing.specs.Layout.{size};
+ghost use Rattle.wire.specs.Wire.{leAt};
+ghost use Rattle.ray_tracing.specs.Layout.{offsetWidth, size, sizeIn};
 ghost use Rattle.ray_tracing.specs.Records.{bufferAt, blasAt, declaredAt, tlasAt, entryAt, geometryAt, packageAt};
 ghost use Rattle.ray_tracing.specs.Mentions.{bufferMention, blasMention, tlasMention, blasOf, tlasOf};
 ghost use Rattle.ray_tracing.specs.Triangles.{indexWidth};
@@ -130,26 +132,49 @@ pub fn entry_at(table: &[u8], at: usize) -> BlasBuildEntry
     }
 }
 
-pub fn geometry_at(table: &[u8], at: usize) -> BlasGeometry
-    requires { ⌜ at + size 6 ≤ length (now table) ⌝ }
-    ensures { λ r. ⌜ r ≡ geometryAt (now (table .entry)) at ⌝ }
+// The bytes of a geometry's offset.
+fn offset_width(version: Version) -> usize
+    ensures { λ r. ⌜ r ≡ offsetWidth version ⌝ }
 {
+    match version {
+        Version::One => 4,
+        Version::Two => 8,
+    }
+}
+
+// A first vertex or primitive offset.
+fn offset_at(version: Version, table: &[u8], at: usize) -> u64
+    requires { ⌜ at + offsetWidth version ≤ length (now table) ⌝ }
+    ensures { λ r. ⌜ r ≡ leAt (offsetWidth version) (now (table .entry)) at ⌝ }
+{
+    match version {
+        Version::One => u32_at(table, at) as u64,
+        Version::Two => u64_at(table, at),
+    }
+}
+
+// What follows the offset stands from `past` on.
+pub fn geometry_at(version: Version, table: &[u8], at: usize) -> BlasGeometry
+    requires { ⌜ at + sizeIn version 6 ≤ length (now table) ⌝ }
+    ensures { λ r. ⌜ r ≡ geometryAt version (now (table .entry)) at ⌝ }
+{
+    let past = at + 5 + offset_width(version);
     BlasGeometry {
         flags: u8_at(table, at),
         count: u32_at(table, at + 1),
-        first: u32_at(table, at + 5),
-        stride: u64_at(table, at + 9),
-        buffer: BufferId(u16_at(table, at + 17)),
-        vertex_format: u8_at(table, at + 19),
-        index_format: u8_at(table, at + 20),
-        index_buffer: BufferId(u16_at(table, at + 21)),
-        index_count_present: u8_at(table, at + 23),
-        index_count: u32_at(table, at + 24),
-        first_index_present: u8_at(table, at + 28),
-        first_index: u32_at(table, at + 29),
-        transform_buffer: BufferId(u16_at(table, at + 33)),
-        transform_buffer_offset_present: u8_at(table, at + 35),
-        transform_buffer_offset: u64_at(table, at + 36),
+        first: offset_at(version, table, at + 5),
+        stride: u64_at(table, past),
+        buffer: BufferId(u16_at(table, past + 8)),
+        vertex_format: u8_at(table, past + 10),
+        index_format: u8_at(table, past + 11),
+        index_buffer: BufferId(u16_at(table, past + 12)),
+        index_count_present: u8_at(table, past + 14),
+        index_count: u32_at(table, past + 15),
+        first_index_present: u8_at(table, past + 19),
+        first_index: u32_at(table, past + 20),
+        transform_buffer: BufferId(u16_at(table, past + 24)),
+        transform_buffer_offset_present: u8_at(table, past + 26),
+        transform_buffer_offset: u64_at(table, past + 27),
     }
 }
 
