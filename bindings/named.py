@@ -48,7 +48,8 @@ def named(sheet):
 def main():
     rng = random.Random(12)
     shipped = [(ROOT / "sheets" / name).read_bytes() for name in ("collection.sheet", "usable.sheet", "rebuilt.sheet", "nothing-recorded.sheet")]
-    sheets = [changed(shipped + [widened(s) for s in shipped], rng) for _ in range(ROUNDS)]
+    shipped += [widened(s) for s in shipped] + [(ROOT / "sheets" / "far-boxes.sheet").read_bytes()]
+    sheets = [changed(shipped, rng) for _ in range(ROUNDS)]
     with tempfile.NamedTemporaryFile() as file:
         file.write(b"".join(len(s).to_bytes(4, "little") + s for s in sheets))
         file.flush()
