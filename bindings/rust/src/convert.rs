@@ -64,7 +64,10 @@ impl ConvertRefused {
         let (error, misfit) = match number {
             39 => (ConvertError::OutputTooShort, None),
             47 => (ConvertError::TooFar, named().map(narrow)),
-            _ => (ConvertError::Sheet(SheetError::from_number(number)), named()),
+            _ => match SheetError::from_number(number) {
+                error @ SheetError::Other(_) => (ConvertError::Sheet(error), None),
+                error => (ConvertError::Sheet(error), named()),
+            },
         };
         ConvertRefused { to, error, place, misfit: misfit.map(Box::new) }
     }
@@ -117,4 +120,19 @@ pub fn version_2_of(sheet: &[u8]) -> Result<Vec<u8>, ConvertRefused> {
 /// The bytes that `to_version_1` writes.
 pub fn version_1_of(sheet: &[u8]) -> Result<Vec<u8>, ConvertRefused> {
     written(Version::One, sheet, sheet.len())
+}
+
+#[cfg(test)]
+mod tests {
+    use super::*;
+
+    /// No library gives these, so they are tried here: what has no name is not guessed.
+    #[test]
+    fn numbers_without_a_name_are_handed_on() {
+        for number in [0, 6, 38, 40, 46, 48, u64::MAX] {
+            let refused = ConvertRefused::of(Version::One, &[2], &[2], number, 0);
+            assert_eq!((refused.error, refused.error.number()), (ConvertError::Sheet(SheetError::Other(number)), number));
+            assert_eq!(refused.misfit, None);
+        }
+    }
 }

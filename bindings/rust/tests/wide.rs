@@ -94,3 +94,19 @@ fn a_geometry_past_four_gigabytes_is_read_back() {
         assert_eq!(tables.records::<BlasGeometry>().unwrap(), geometries);
     }
 }
+
+/// Geometries that are lent as the other version's are refused, however many they are: none is taken for what it is not.
+#[test]
+fn geometries_of_the_other_version_are_refused() {
+    for n in 1..=MOST_GEOMETRIES {
+        let wide = table(&vec![BlasGeometry::default(); n]).unwrap();
+        let narrow: Vec<u8> = wide.chunks(WIDE_GEOMETRY_BYTES).flat_map(|g| [&g[..9], &g[13..]].concat()).collect();
+        let blases = table(&[Blas::default()]).unwrap();
+        let entries = table(&[BlasBuildEntry { geometry_count: n.try_into().unwrap(), ..Default::default() }]).unwrap();
+        for (version, geometries) in [(Version::One, &wide), (Version::Two, &narrow)] {
+            let tables = Tables { version, blases: &blases, entries: &entries, geometries, ..Default::default() };
+            let refused = build_acceleration_structures(1, &tables, LentOutputs::default()).unwrap_err();
+            assert!(matches!((refused.error, refused.e[0]), (E::TooMany | E::InvalidValue, 6)), "{refused}");
+        }
+    }
+}
