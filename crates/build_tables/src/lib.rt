@@ -3,12 +3,13 @@ use ray_tracing::BuildAccelerationStructureError;
 use ray_tracing::Judged;
 use ray_tracing::SheetError;
 use ray_tracing::Verdict;
+use ray_tracing::Version;
 use ray_tracing::first;
 use sheet_sections::judge_lent;
 ghost use mathlib.Core.Path.{_≡_};
 ghost use Prim.Native.Nat.{_-_, _≤_, _<_};
 ghost use lib.Dec.{eqb};
-ghost use Rattle.ray_tracing.specs.Layout.{layout, size};
+ghost use Rattle.ray_tracing.specs.Layout.{layoutIn, sizeIn};
 ghost use Rattle.ray_tracing.specs.Reading.{judgeLent};
 ghost use Rattle.ray_tracing.specs.Causes.{bare, buildCause, sheetNumber};
 ghost use Rattle.ray_tracing.specs.Code.{judgedOf, verdictOf};
@@ -40,14 +41,14 @@ fn section_verdict(section: usize, j: Judged) -> Verdict
 }
 
 // The table of a section, after that of the section before.
-fn judge_section(section: usize, before: &[u8], table: &[u8]) -> Verdict
+fn judge_section(version: Version, section: usize, before: &[u8], table: &[u8]) -> Verdict
     requires { ⌜ (0 < section) × (section < 10) ⌝ }
     ensures { λ r. ⌜
         verdictOf r
-        ≡ bySection section (judgeLent section (layout section) (size (section - 1)) (now (before .entry)) (now (table .entry)))
+        ≡ bySection section (judgeLent section (layoutIn version section) (sizeIn version (section - 1)) (now (before .entry)) (now (table .entry)))
         ⌝ }
 {
-    section_verdict(section, judge_lent(table, section, before))
+    section_verdict(section, judge_lent(version, table, section, before))
 }
 
 fn judge_alignment(alignment: u32) -> Verdict
@@ -61,6 +62,7 @@ fn judge_alignment(alignment: u32) -> Verdict
 
 // Sections 1 to 8, in turn; the scratch alignment before them.
 pub fn judge_tables(
+    version: Version,
     alignment: u32,
     buffers: &[u8],
     blases: &[u8],
@@ -75,6 +77,7 @@ pub fn judge_tables(
         verdictOf r
         ≡ judgeTables
         (tablesOf
+        version
         alignment
         (now (buffers .entry))
         (now (blases .entry))
@@ -87,14 +90,14 @@ pub fn judge_tables(
         ⌝ }
 {
     let a = judge_alignment(alignment);
-    let v1 = judge_section(1, &buffers[0..0], buffers);
-    let v2 = judge_section(2, buffers, blases);
-    let v3 = judge_section(3, blases, declared);
-    let v4 = judge_section(4, declared, tlases);
-    let v5 = judge_section(5, tlases, entries);
-    let v6 = judge_section(6, entries, geometries);
-    let v7 = judge_section(7, geometries, packages);
-    let v8 = judge_section(8, packages, slots);
+    let v1 = judge_section(version, 1, &buffers[0..0], buffers);
+    let v2 = judge_section(version, 2, buffers, blases);
+    let v3 = judge_section(version, 3, blases, declared);
+    let v4 = judge_section(version, 4, declared, tlases);
+    let v5 = judge_section(version, 5, tlases, entries);
+    let v6 = judge_section(version, 6, entries, geometries);
+    let v7 = judge_section(version, 7, geometries, packages);
+    let v8 = judge_section(version, 8, packages, slots);
     first(
         a,
         first(

@@ -4,6 +4,7 @@ use ray_tracing::Judged;
 use ray_tracing::MOST_GROUPS;
 use ray_tracing::SLOT_SIZE;
 use ray_tracing::SheetError;
+use ray_tracing::Version;
 use sheet_fields::judge_records;
 use wire::u8_at;
 use wire::u16_at;
@@ -44,7 +45,7 @@ fn judge_slot(groups: &[u8], at: usize) -> GroupsJudged
     if SLOT_SIZE <= groups.len() - at {
         return GroupsJudged::EndsAt(at + SLOT_SIZE);
     }
-    let judged = judge_records(groups, at, 1, 8, groups, 0, false);
+    let judged = judge_records(Version::One, groups, at, 1, 8, groups, 0, false);
     match judged {
         Judged::Refused(e, place) => GroupsJudged::Refused(e, place),
         Judged::Fine => GroupsJudged::EndsAt(at + SLOT_SIZE),
