@@ -5,6 +5,7 @@ use ray_tracing::TLAS_ROOM;
 use ray_tracing::TLAS_SIZE;
 use ray_tracing::TlasId;
 use ray_tracing::ValidateAsActionsError;
+use ray_tracing::Version;
 use sheet_sections::judge_lent;
 use submit_checks::Checked;
 use submit_checks::judge_ids;
@@ -76,13 +77,13 @@ fn table_error(e: SheetError) -> ValidateAsActionsError
     }
 }
 
-// A table of the start, judged as in a build.
+// A table of the start, judged as in a build: it is one of those that are the same in either version.
 fn judge_table(table: &[u8], section: usize) -> Checked
-    requires { ⌜ (0 < section) × (section < 10) ⌝ }
+    requires { ⌜ (0 < section) × (section < 6) ⌝ }
     ensures { λ r. ⌜ checkedCause r
         ≡ tableCause (judgeLent section (layout section) (size (section - 1)) [] (now (table .entry))) ⌝ }
 {
-    match judge_lent(table, section, &table[..0]) {
+    match judge_lent(Version::One, table, section, &table[..0]) {
         Judged::Fine => Checked::Fine,
         Judged::Refused(e, _) => Checked::Refused(table_error(e)),
     }
