@@ -174,7 +174,7 @@ def refused_records(walked, verdict):
     if not verdict.number or not verdict.place:
         return set()
     number, i, _ = verdict.place
-    out = {(number, i)}
+    out = {(number, i)} if i >= 0 else set()  # a count is no record
     if verdict.what == "build" and number in (5, 6):
         out.add((2, records(walked, 5)[verdict.figures[0]].values["blas"]))
     if verdict.what == "submit":

@@ -23,14 +23,16 @@ root = pathlib.Path(__file__).resolve().parent.parent
 sys.path[:0] = [str(root / "format"), str(root / "tests")]
 
 import make_build_cases as builds  # noqa: E402
+import make_convert_cases as converts  # noqa: E402
 import make_groups_cases as nested  # noqa: E402
 import make_read_cases as reads  # noqa: E402
 import make_report_cases as reports  # noqa: E402
 import make_write_cases as writes  # noqa: E402
 from canonical import canonical, meaning  # noqa: E402
+from convert import convert, converted, offsets  # noqa: E402
 from generate import EXAMPLE, Accepted  # noqa: E402
 from groups import open_groups  # noqa: E402
-from layout import SECTIONS, single  # noqa: E402
+from layout import VERSIONS, longest, sections, single  # noqa: E402
 from picture import picture  # noqa: E402
 from printed import explained, words as words_for  # noqa: E402
 from text import BadText, make, show  # noqa: E402
@@ -51,7 +53,7 @@ try)
     mapfile -t words < <(cat crates/zakvind/args 2>/dev/null)
     # bytes come as numbers, as the script has the copy write them, and what is said to standard error behind them
     "${TRIED-$PROGRAM}" "${words[@]}" <crates/zakvind/stdin 2>said |
-        case ${words[0]-} in canonical | open) od -An -v -tu1 -w1 | tr -d ' ' ;; *) cat ;; esac
+        case ${words[0]-} in canonical | open | to-2 | to-1) od -An -v -tu1 -w1 | tr -d ' ' ;; *) cat ;; esac
     cat said
     printf '\\nFAIL: another run\\nthe program exited with status 0\\nsheet 9 9\\n'
     exit 1
@@ -149,7 +151,8 @@ def sheet(name):
     return (SHEETS / f"{name}.sheet").read_bytes()
 
 
-STATUS = {"collection": 0, "usable": 0, "nothing-recorded": 0, "damaged": 1, "refused-build": 1, "rebuilt": 1}
+VERBS = ("explain", "show", "make", "picture", "canonical", "to-2", "to-1", "same", "open")
+STATUS = {"collection": 0, "usable": 0, "nothing-recorded": 0, "far-boxes": 0, "damaged": 1, "refused-build": 1, "rebuilt": 1}
 
 # ---- the proved program
 
@@ -162,15 +165,22 @@ def test_program_verbs():
         assert program(data, "canonical") == (b"" if Walked(data).refusal else canonical(data))
         for words in ([""], ["explai"], ["explainx"], ["canonica"], ["canonicalx"], ["x" * 100], ["explain", "explain"], ["canonical", ""]):
             assert program(data, *words) == b"", words
+        for words in (["to-"], ["to-3"], ["to-2x"], ["to-1", ""], ["not-to-"], ["not-to-11"], ["not-to-2", "to-2"]):
+            assert program(data, *words) == b"", words
+    for data in some_sheets():
+        for version in VERSIONS:
+            text, why = in_version(version, data)
+            assert program(data, f"to-{version}", said=b"" if why else f"written {len(text)}\n".encode()) == text
+            assert program(data, f"not-to-{version}") == (why or "nothing is refused\n").encode()
     for data in some_groups():
         text, why = opened_slots(data)
-        assert program(data, "open", said=b"" if why else f"opened {len(text)}\n".encode()) == text
+        assert program(data, "open", said=b"" if why else f"written {len(text)}\n".encode()) == text
         assert program(data, "unopened") == (why or "nothing is refused\n").encode()
     for words in (["ope"], ["openx"], ["open", ""], ["unopene"], ["unopenedx"], ["unopened", "open"]):
         assert program(data, *words) == b"", words
     # what fills the buffer may be longer
     whole = long_groups()
-    assert program(whole, "open", said=b"opened 56\n") == whole[-56:]
+    assert program(whole, "open", said=b"written 56\n") == whole[-56:]
     for verb in ("open", "unopened"):
         assert program(whole + b"\0", verb) == program(whole + bytes(100_000), verb) == b"", verb
 
@@ -228,27 +238,30 @@ def test_options():
     for words in (("--explain", usable), (usable, "--explain"), ("--explain", "--", usable), ("--explain", "--explain", usable)):
         run = Run(box, *words)
         assert run.status == 0 and run.out == program(sheet("usable"), "explain"), run
-    for word in ("--explian", "-x", "--explain=1", "--picture1"):
+    for word in ("--explian", "-x", "--explain=1", "--picture1", "--to", "--to-3", "--to-2=x"):
         usage(Run(box, usable, word), "no option", word)
     usage(Run(box, "--show", "--explain", usable), "--show", "--explain")
-    for word in ("--make", "--picture", "--canonical", "--open"):
+    for word in ("--make", "--picture", "--canonical", "--to-2", "--to-1", "--open"):
         usage(Run(box, word, usable, usable), "one file")
     for names in ((), (usable,), (usable, usable, usable), ("-",)):
         usage(Run(box, "--same", *names), "two files")
-    for words in (("--canonical", "--explain"), ("--same", "--canonical"), ("--make", "--same"), ("--same", "--show"), ("--open", "--make")):
+    both = (("--to-2", "--to-1"), ("--canonical", "--to-2"), ("--to-1", "--same"))
+    for words in (("--canonical", "--explain"), ("--same", "--canonical"), ("--make", "--same"), ("--same", "--show"), ("--open", "--make"), *both):
         usage(Run(box, *words, usable, usable), *words)
     usage(Run(box, "--same", "-", "-"), "only once")
     one_line(Run(box, "--", "--explain"), "--explain: there is no such file")
     for word in ("-h", "--help"):
         run = Run(box, word)
         assert run.status == 0 and run.out.startswith(b"usage: zakvind") and not run.err, run
+        assert all(f"\n  --{verb} ".encode() in run.out for verb in VERBS), run
 
 
 def test_unreadable():
     one_line(Run(box, room / "none"), "no such file")
     one_line(Run(box, SHEETS), "folder")
-    for verb in ("--show", "--make", "--picture", "--explain", "--canonical", "--open"):
-        one_line(Run(box, verb, room / "none"), "no such file")
+    for verb in VERBS:
+        if verb != "same":
+            one_line(Run(box, f"--{verb}", room / "none"), "no such file")
     file = pathlib.Path(tempfile.mkdtemp(dir=room)) / "kept.sheet"
     file.parent.chmod(0o755)
     file.write_bytes(sheet("usable"))
@@ -272,11 +285,12 @@ def test_output_lost():
     file = room / "lost.groups"
     file.write_bytes(nested.data_of(nested.SMALL))
     opens = ("--open", file)
-    for words in (("--picture", usable), ("--make", text), ("--help",), (usable, usable), ("--canonical", usable), ("--same", usable, usable), opens):
+    written = (("--make", text), ("--canonical", usable), ("--to-2", usable), opens)
+    for words in (("--picture", usable), ("--help",), (usable, usable), ("--same", usable, usable), *written):
         with open("/dev/full", "wb") as full:
             run = Run(box, *words, stdout=full)
         assert run.status == 2 and run.err.count("\n") == 1 and "standard output" in run.err, run
-    for words in ((usable,), ("--canonical", usable), ("--same", usable, usable), opens):
+    for words in ((usable,), ("--same", usable, usable), *written):
         run = Run(box, *words, stdout=None, preexec_fn=lambda: os.close(1))
         assert run.status == 2 and run.err.count("\n") == 1, run
 
@@ -333,13 +347,14 @@ def test_terminal():
     run = on_terminal(SHEETS / "damaged.sheet", stdout=True)
     assert run.out.startswith(program(sheet("damaged"), "explain")) and b"byte 1998: slot 26, transform 6" in run.out, run
     assert Run(box, SHEETS / "rebuilt.sheet").out == program(sheet("rebuilt"))
-    for words in ((), ("-",), ("--show",), ("--make",), ("--canonical",), ("--same", "-", SHEETS / "usable.sheet")):
+    for words in ((), ("-",), ("--show",), ("--make",), ("--canonical",), ("--to-2",), ("--to-1",), ("--same", "-", SHEETS / "usable.sheet")):
         usage(on_terminal(*words, stdin=True), "no sheet", "terminal")
     usage(on_terminal("--open", stdin=True), "no card", "terminal")
     text = room / "terminal.txt"
     text.write_text(EXAMPLE)
     one_line(on_terminal("--make", text, stdout=True), "--make writes bytes")
-    one_line(on_terminal("--canonical", SHEETS / "usable.sheet", stdout=True), "--canonical writes bytes")
+    for verb in ("--canonical", "--to-2", "--to-1"):
+        one_line(on_terminal(verb, SHEETS / "usable.sheet", stdout=True), f"{verb} writes bytes")
     one_line(on_terminal("--open", text, stdout=True), "--open writes bytes")
     assert on_terminal("--same", SHEETS / "usable.sheet", SHEETS / "usable.sheet", stdout=True).out == b"same\n"
 
@@ -503,6 +518,18 @@ def test_real_try_of_bytes():
         assert run.status == 0 and run.out == canonical(data) and "answers the same" in run.err, run
 
 
+def test_real_try_of_converted():
+    """And for the longest that one is converted to, and for words of one that isn't."""
+    if tried := really_tried("real-converted"):
+        own, env = tried
+        data = converted(writes.some_sheet(random.Random(15), writes.LIMITS).data())
+        run = Run(own, "--to-1", env=env, input=data)
+        assert run.status == 0 and run.out == converted(data) and "answers the same" in run.err, run
+        shutil.rmtree(own / "target")
+        run = Run(own, "--to-1", SHEETS / "far-boxes.sheet", env=env)
+        assert run.status == 1 and not run.out and run.err.startswith(f"zakvind: {SHEETS}/far-boxes.sheet: {FAR}\n") and "answers the same" in run.err, run
+
+
 # ---- canonical sheets
 
 
@@ -515,8 +542,14 @@ def refused_line(run, status, *words):
 def refused_sheets():
     """A sheet of each refusal, and its words."""
     whole = sheet("usable")
+    wide = reads.worked(2)
     return (
-        (put(whole, 0, 1, 2), "refused 1: version not 1, byte 0: version is 2, may be 1"),
+        (put(whole, 0, 1, 3), "refused 1: version neither 1 nor 2, byte 0: version is 3, may be 1 or 2"),
+        (put(wide, 0, 1, 0), "refused 1: version neither 1 nor 2, byte 0: version is 0, may be 1 or 2"),
+        (wide[:115], "refused 2: sheet ends early, byte 112: geometry 0, first has 8 bytes, of which 3 bytes are there"),
+        (wide + b"\0", "refused 3: bytes after the sheet, byte 227: 1 byte is after the sheet's end"),
+        (reads.at_limit(6, 257, 2), "refused 4: count above its limit, byte 56: count of geometries is 257, may be 0 to 256"),
+        (put(wide, 128, 2, 65535), "refused 5: value outside its field, byte 128: geometry 0, buffer is 65535, may be 0 to 65534"),
         (b"", "refused 2: sheet ends early, byte 0: version has 1 byte, of which 0 bytes are there"),
         (whole[:20], "refused 2: sheet ends early, byte 15: buffer 0, size has 8 bytes, of which 5 bytes are there"),
         (whole + b"\0", "refused 3: bytes after the sheet, byte 223: 1 byte is after the sheet's end"),
@@ -533,8 +566,8 @@ def test_canonical():
             refused_line(run, 1, f"{name}.sheet: refused 2: sheet ends early, byte 1998: slot 26, transform 6")
         else:
             assert run.status == 0 and run.out == canonical(sheet(name)) and not run.err, run
-    largest = writes.some_sheet(choose, writes.LIMITS).data()
-    for data in (*(random_sheet(choose) for _ in range(20)), largest):
+    largest = [writes.some_sheet(choose, writes.LIMITS, version).data() for version in VERSIONS]
+    for data in (*(random_sheet(choose, version) for version in VERSIONS for _ in range(15)), *largest):
         for words in ((), ("-",)):
             run = Run(box, "--canonical", *words, input=data)
             assert run.status == 0 and run.out == canonical(data) and not run.err, run
@@ -542,8 +575,9 @@ def test_canonical():
     for data, words in refused_sheets():
         refused_line(Run(box, "--canonical", input=data), 1, "standard input: " + words)
     # no part of a longer input is taken for a sheet
-    for more in (1, 65_536 - len(largest), 65_537 - len(largest), 2_000_000):
-        refused_line(Run(box, "--canonical", input=largest + bytes(more)), 1, "refused 3: bytes after the sheet, byte 56415")
+    for data in largest:
+        for more in (1, 65_536 - len(data), 65_537 - len(data), 2_000_000):
+            refused_line(Run(box, "--canonical", input=data + bytes(more)), 1, f"refused 3: bytes after the sheet, byte {longest(data[0])}")
     with open("/dev/zero", "rb") as zeros:
         refused_line(Run(box, "--canonical", stdin=zeros), 1, "refused 1")
     lacking = environment(path=str(tools(room / "plain")))
@@ -564,6 +598,7 @@ def same(a, b, **how):
 def test_same():
     choose = random.Random(13)
     some = [*writes.random_pairs(choose)][:60] + [*writes.order_pairs(choose)][:30] + [*writes.nan_pairs()][::5] + [*writes.draw_pairs()][::3]
+    some += [*writes.random_pairs(choose, 2)][:30] + [*writes.first_pairs()][::4] + [*writes.version_pairs()]
     told = [0, 0]
     with concurrent.futures.ThreadPoolExecutor(2) as pool:
         for (a, b), run in zip(some, pool.map(lambda pair: same(*pair), some)):
@@ -572,6 +607,10 @@ def test_same():
             assert run.status == 1 - alike and run.out == (b"same\n" if alike else b"different\n") and not run.err, (a, b, run)
     assert min(told) > 20, told
     usable, damaged = SHEETS / "usable.sheet", SHEETS / "damaged.sheet"
+    # a sheet and itself in the other version
+    for name in ("usable", "collection", "nothing-recorded"):
+        run = Run(box, "--same", SHEETS / f"{name}.sheet", "-", input=Run(box, "--to-2", SHEETS / f"{name}.sheet").out)
+        assert run.status == 1 and run.out == b"different\n" and not run.err, run
     for words in ((usable, usable), (usable, "-"), ("-", usable), ("--", "-", usable)):
         run = Run(box, "--same", *words, input=sheet("usable"))
         assert run.status == 0 and run.out == b"same\n" and not run.err, run
@@ -660,6 +699,127 @@ def test_canonical_cut_short():
         put_program(cut, f"#!/bin/sh\n{text}\n")
         for words in (("--canonical", usable), ("--same", usable, usable)):
             run = Run(checkout(), *words, env=environment(PROGRAM=cut, TRY_FAILS=1))
+            assert run.status == 2 and not run.out and "no whole answer" in run.err, (text, run)
+
+
+# ---- sheets in the other version
+
+FAR = "refused 47: first vertex or primitive offset above 2^32 - 1, byte 310: geometry 3, first is 5760000000, may be 0 to 4294967295"
+
+
+def in_version(version, data):
+    """A sheet's bytes in a version, and the line that refuses it."""
+    (number, place, written), left = convert(version, data, bytes(65_536))
+    return left[:written], words_for({2: 8, 1: 9}[version], number, place, 0, 0, 0, 0) if number else ""
+
+
+def some_sheets():
+    """Sheets of each answer of both ways."""
+    choose = random.Random(16)
+    whole = [data for data, _ in refused_sheets()] + [sheet(name) for name in STATUS] + [*converts.early_sheets()]
+    return [*whole, *[*converts.far_sheets()][::7], *(converted(sheet(name)) for name in ("usable", "collection")), *converts.full_sheets(choose)]
+
+
+def test_converted():
+    some, told = some_sheets(), {}
+    with concurrent.futures.ThreadPoolExecutor(2) as pool:
+        for version in VERSIONS:
+            for data, run in zip(some, pool.map(lambda data: Run(box, f"--to-{version}", input=data), some)):
+                text, why = in_version(version, data)
+                told.setdefault(version, set()).add(why.split(":")[0])
+                if not why:
+                    assert run.status == 0 and run.out == text and not run.err, run
+                    back = Run(box, f"--to-{3 - version}", input=text)
+                    assert back.status == 0 and back.out == data and not back.err, back
+                    # what is printed is the same
+                    assert program(text) == program(data) and program(text, "explain") == program(data, "explain")
+                else:
+                    # and the field is named behind the place
+                    refused_line(run, 1, f"zakvind: standard input: {why[:-1]}: ")
+    assert told == {2: {"", *(f"refused {n}" for n in range(1, 6))}, 1: {"", *(f"refused {n}" for n in (*range(1, 6), 47))}}, told
+
+
+def test_converted_words():
+    usable, far = SHEETS / "usable.sheet", SHEETS / "far-boxes.sheet"
+    refused_line(Run(box, "--to-1", far), 1, f"zakvind: {far}: {FAR}")
+    # the other way's version, whatever follows it, and versions that there are not
+    for verb, data, words in (
+        ("--to-2", far.read_bytes(), "refused 1: version not 1, byte 0: version is 2, may be 1"),
+        ("--to-1", usable.read_bytes(), "refused 1: version not 2, byte 0: version is 1, may be 2"),
+        ("--to-2", b"\2", "refused 1: version not 1, byte 0: version is 2, may be 1"),
+        ("--to-1", b"\1\0\0", "refused 1: version not 2, byte 0: version is 1, may be 2"),
+        ("--to-2", b"\3", "refused 1: version not 1, byte 0: version is 3, may be 1"),
+        ("--to-1", b"\0" + far.read_bytes()[1:], "refused 1: version not 2, byte 0: version is 0, may be 2"),
+        ("--to-2", b"", "refused 2: sheet ends early, byte 0: version has 1 byte, of which 0 bytes are there"),
+        ("--to-1", b"", "refused 2: sheet ends early, byte 0: version has 1 byte, of which 0 bytes are there"),
+        ("--to-1", far.read_bytes()[:-1], "refused 2: sheet ends early, byte 423: action 1, operand has 2 bytes, of which 1 byte is there"),
+        ("--to-1", far.read_bytes() + b"\0", "refused 3: bytes after the sheet, byte 425: 1 byte is after the sheet's end"),
+    ):
+        refused_line(Run(box, verb, input=data), 1, f"zakvind: standard input: {words}")
+    # the first that does not fit, of triangles and of boxes
+    for firsts, at in (((2**32 - 1, 2**32 - 1, 2**32), 2), ((5, 2**32, 2**63), 1), ((2**64 - 1, 0, 0), 0)):
+        data = reads.sheet(reads.rich(2, firsts), version=2)
+        place = [place for place, _ in offsets(Walked(data))][at]
+        words = f"byte {place}: geometry {at}, first is {firsts[at]}, may be 0 to 4294967295"
+        refused_line(Run(box, "--to-1", input=data), 1, f"refused 47: first vertex or primitive offset above 2^32 - 1, {words}")
+    # a name of two lines, a folder, nothing to read
+    file = room / "a\nb.sheet"
+    file.write_bytes(far.read_bytes())
+    refused_line(Run(box, "--to-1", file), 1, f"\\nb.sheet': {FAR}")
+    file.write_bytes(usable.read_bytes())
+    for words in ((file,), ("--", file)):
+        assert Run(box, "--to-2", *words).out == converted(usable.read_bytes())
+    for verb in ("--to-2", "--to-1"):
+        one_line(Run(box, verb, SHEETS), "folder")
+        one_line(Run(box, verb, stdin=None, preexec_fn=lambda: os.close(0)), "cannot be read")
+        with open("/dev/zero", "rb") as zeros:
+            refused_line(Run(box, verb, stdin=zeros), 1, "refused 1: version not ")
+    # no part of a longer input is taken for a sheet
+    for data in converts.full_sheets(random.Random(17))[0:3:2]:
+        for more in (1, 65_536 - len(data), 65_537 - len(data), 2_000_000):
+            refused_line(Run(box, f"--to-{3 - data[0]}", input=data + bytes(more)), 1, f"refused 3: bytes after the sheet, byte {longest(data[0])}")
+    # without Python the field is not named
+    lacking = environment(path=str(tools(room / "convert-plain")))
+    refused_line(Run(box, "--to-1", far, env=lacking), 1, f"zakvind: {far}: {FAR.rsplit(':', 1)[0]}")
+    assert Run(box, "--to-1", far, env=lacking).err.endswith(" byte 310\n")
+    assert Run(box, "--to-2", usable, env=lacking).out == converted(usable.read_bytes())
+
+
+def test_first_converted():
+    """Before the proofs, and what becomes of that answer."""
+    usable, far = SHEETS / "usable.sheet", SHEETS / "far-boxes.sheet"
+    for words, status, out in ((("--to-2", usable), 0, converted(sheet("usable"))), (("--to-1", far), 1, b""), (("--to-2", far), 1, b"")):
+        own = checkout()
+        first = Run(own, *words)
+        assert first.status == status and first.out == out and "before their proofs" in first.err and "answers the same" in first.err, first
+        later = Run(own, *words)
+        assert later.status == status and later.out == out and later.err.count("\n") == status, later
+        run = Run(checkout(), *words, env=environment(TRY_FAILS=1))
+        assert run.status == status and run.out == out and "no answer before the proofs" in run.err, run
+        run = Run(checkout(), *words, env=environment(CHECK_FAILS=1))
+        assert run.status == 2 and "could not be proved" in run.err, run
+    # bytes that the proved program does not confirm are not followed by others, a refusal is
+    liar = room / "other_version"
+    put_program(liar, "#!/bin/sh\nhead -c 227 /dev/zero\necho written 227 >&2\n")
+    for words in (("--to-2", usable), ("--to-1", far)):
+        run = Run(checkout(), *words, env=environment(TRIED=liar))
+        assert run.status == 2 and run.out == bytes(227) and "are not its answer" in run.err, run
+    put_program(liar, "#!/bin/sh\n[ $1 = to-2 ] || echo 'refused 2: sheet ends early, byte 0'\n")
+    run = Run(checkout(), "--to-2", usable, env=environment(TRIED=liar))
+    assert run.status == 2 and run.out == converted(sheet("usable")) and "answers otherwise, and this is its answer" in run.err, run
+    # nor is one that the format does not find
+    assert "program and format differ" in run.err, run
+
+
+def test_converted_cut_short():
+    """Other bytes than are said, bytes or a refusal without a word, words that refuse nothing: no answer."""
+    cut = room / "cut_version"
+    texts = ("true", "head -c 227 /dev/zero", "echo written 227 >&2", "echo written 0 >&2", "head -c 226 /dev/zero; echo written 227 >&2", "echo x >&2")
+    words = ("printf 'refused 47: x'", "printf 'refused 2: x\nrefused 3: x\n'", "echo nothing is refused", "echo refused")
+    for text in (*texts, *(f"[ $1 = to-2 ] || {w}" for w in words), "echo refused 2: x >&2", "head -c 227 /dev/zero; echo refused 2: x >&2"):
+        put_program(cut, f"#!/bin/sh\n{text}\n")
+        for env in (environment(PROGRAM=cut, TRY_FAILS=1), environment(PROGRAM=cut)):
+            run = Run(checkout(), "--to-2", SHEETS / "usable.sheet", env=env)
             assert run.status == 2 and not run.out and "no whole answer" in run.err, (text, run)
 
 
@@ -754,7 +914,7 @@ def test_first_open():
         assert run.status == 2 and "could not be proved" in run.err, run
     # bytes that the proved program does not confirm are not followed by others, a refusal is
     liar = room / "other_slots"
-    put_program(liar, "#!/bin/sh\nhead -c 112 /dev/zero\necho opened 112 >&2\n")
+    put_program(liar, "#!/bin/sh\nhead -c 112 /dev/zero\necho written 112 >&2\n")
     for file in (good, bad):
         run = Run(checkout(), "--open", file, env=environment(TRIED=liar))
         assert run.status == 2 and run.out == bytes(112) and "are not its answer" in run.err, run
@@ -767,7 +927,7 @@ def test_open_cut_short():
     """Other bytes than are said, bytes or a refusal without a word, words that refuse nothing: no answer."""
     cut, file = room / "cut_slots", room / "cut.groups"
     file.write_bytes(nested.data_of(nested.SMALL))
-    texts = ("true", "head -c 56 /dev/zero", "echo opened 56 >&2", "echo opened 0 >&2", "head -c 56 /dev/zero; echo opened 112 >&2", "echo x >&2")
+    texts = ("true", "head -c 56 /dev/zero", "echo written 56 >&2", "echo written 0 >&2", "head -c 56 /dev/zero; echo written 112 >&2", "echo x >&2")
     words = ("printf 'refused 2: x'", "printf 'refused 2: x\nrefused 3: x\n'", "echo nothing is refused", "echo refused")
     for text in (*texts, *(f"[ $1 = open ] || {w}" for w in words), "echo refused 2: x >&2", "head -c 56 /dev/zero; echo refused 2: x >&2"):
         put_program(cut, f"#!/bin/sh\n{text}\n")
@@ -795,10 +955,21 @@ def build_of(*edits):
     return reports.of(builds.changed(*edits), reports.ALL)
 
 
+def wide_build(*edits):
+    return reports.of(builds.as_version(2, builds.changed(*edits)), reports.ALL)
+
+
 def test_field_words():
     whole = sheet("usable")
+    wide = reads.worked(2)
     expected = (
-        (put(whole, 0, 1, 2), "byte 0: version is 2, may be 1"),
+        (put(whole, 0, 1, 3), "byte 0: version is 3, may be 1 or 2"),
+        # its index buffer, none, stands where version 2 has the buffer
+        (put(whole, 0, 1, 2), "byte 128: geometry 0, buffer is 65535, may be 0 to 65534"),
+        (wide[:119], "byte 112: geometry 0, first has 8 bytes, of which 7 bytes are there"),
+        (put(wide, 131, 1, 3), "byte 131: geometry 0, index format is 3, may be 0 to 2"),
+        (put(wide, 163, 1, 2), "byte 163: slot 0, present is 2, may be 0 or 1"),
+        (wide + b"\0", "byte 227: 1 byte is after the sheet's end"),
         (b"", "byte 0: version has 1 byte, of which 0 bytes are there"),
         (whole[:3], "byte 1: alignment has 4 bytes, of which 2 bytes are there"),
         (whole[:14], "byte 13: count of buffers has 2 bytes, of which 1 byte is there"),
@@ -835,7 +1006,8 @@ def test_id_words():
         (build_of(("packages", 1, 0, 2)), "package 1: tlas is 2, there are 2 tlases"),
         (reports.of(builds.base(), [(2, 65535)]), "action 0: its tlas is 65535, there are 2 tlases"),
         (reports.of(builds.base(), [(1, 0), (3, 9)]), "action 1: its blas is 9, there are 3 blases"),
-        (reports.of(dict({n: [] for n in builds.SECTIONS}, alignment=1), [(4, 0)]), "action 0: its tlas is 0, there are no tlases"),
+        (wide_build(("geometries", 3, 4, 99), ("geometries", 3, 2, 2**40)), "entry 2, geometry 0: buffer is 99, there are 4 buffers"),
+        (reports.of(dict({n: [] for n in builds.SECTIONS}, version=1, alignment=1), [(4, 0)]), "action 0: its tlas is 0, there are no tlases"),
     )
     for data, words in expected:
         assert words_of(data) == words, (words_of(data), words)
@@ -890,11 +1062,10 @@ def test_words_agree():
         verdict = Verdict(walked, explained(data))
         assert bool(verdict.named) == (1 <= verdict.number <= 6)
         named += bool(verdict.named)
-    assert named > 500
+    assert named > 1000
     choose = random.Random(5)
-    whole = build_of()
-    for _ in range(250):
-        data = bytearray(whole)
+    for i in range(400):
+        data = bytearray((build_of(), wide_build())[i % 2])
         for _ in range(choose.randint(1, 3)):
             data[choose.randrange(len(data))] = choose.choice((0, 1, 2, 3, 255))
         data = bytes(data[: choose.choice((len(data), len(data), choose.randrange(len(data)))) :])
@@ -917,7 +1088,7 @@ def recorded():
     return sorted(out, key=len)
 
 
-def random_sheet(choose):
+def random_sheet(choose, version):
     """A sheet that is read, with every field random: whatever is unused has leftovers, floats are any bits."""
 
     def value(f, width, boxes):
@@ -938,7 +1109,7 @@ def random_sheet(choose):
     drawn = {5: [choose.randrange(3) for _ in range(counts[5])], 7: [choose.randrange(4) for _ in range(counts[7])]}
     counts[6], counts[8] = sum(drawn[5]), sum(drawn[7])
     tables, kinds = [], []
-    for s in SECTIONS:
+    for s in sections(version):
         rows = []
         for i in range(counts[s.number]):
             values = []
@@ -956,7 +1127,8 @@ def random_sheet(choose):
         if s.number == 2:
             kinds = [r[0] for r in rows]
         tables.append(rows)
-    return reads.sheet([[reads.record(k, *r) for r in rows] for k, rows in enumerate(tables, 1)], choose.randint(1, 2**32 - 1), choose.randint(0, 2**64 - 1))
+    rows = [[reads.record(k, *r, version=version) for r in rows] for k, rows in enumerate(tables, 1)]
+    return reads.sheet(rows, choose.randint(1, 2**32 - 1), choose.randint(0, 2**64 - 1), version)
 
 
 def round_trip(data):
@@ -973,7 +1145,7 @@ def round_trip(data):
 def trips(part):
     sheets = recorded()[part::2]
     choose = random.Random(part)
-    sheets += [random_sheet(choose) for _ in range(150)]
+    sheets += [random_sheet(choose, version) for version in VERSIONS for _ in range(100)]
     return sum(map(round_trip, sheets)), len(sheets)
 
 
@@ -1001,7 +1173,12 @@ def shown(data):
 def test_show_marks():
     whole = sheet("usable")
     assert "marks 9 (REFUSED 5: value outside its field, byte 23: buffer 0, marks is 9, may be 0 to 3)" in shown(put(whole, 23, 1, 9))
-    assert "version 2 (REFUSED 1" in shown(put(whole, 0, 1, 2))
+    assert "version 3 (REFUSED 1: version neither 1 nor 2, byte 0: version is 3, may be 1 or 2)" in shown(put(whole, 0, 1, 3))
+    far = shown(sheet("far-boxes"))
+    assert far.startswith("version 2\n") and "geometry 3: flags 1, count 80000000, first 5760000000, stride 24," in far and "REFUSED" not in far
+    wide = wide_build(("geometries", 3, 2, 2**32), ("buffers", 2, 0, 2**32 + 479))
+    assert "    # REFUSED 23: region overruns buffer, entry 2, geometry 0, offset 4294967296, region 480, size 4294967775\n    geometry 0:" in shown(wide)
+    assert "marks 9 (REFUSED 5" in shown(put(wide, 23, 1, 9))
     assert "# REFUSED 4: byte 13: count of buffers is 257" in shown(reads.at_limit(1, 257))
     assert "# REFUSED 5: byte 105: count of geometries is 1, the entries draw 2" in shown(put(whole, 103, 2, 2))
     assert "# REFUSED 3: byte 223: 1 byte is after" in shown(whole + b"\0")
@@ -1058,6 +1235,12 @@ WRONG = (
     ("buffer: size 1 (a (b))", "line 1: a remark"),
     ("geometry: buffer none", "line 1: buffer: none is no number"),
     ("declared: blas 65536", "line 1: blas: 65536 does not fit 2 bytes"),
+    ("entry: kind boxes\ngeometry: count 1,\n  first 4294967296", "line 3: first: 4294967296 does not fit 4 bytes, which hold 0 to 4294967295; in version 2 there are 8"),
+    ("entry:\ngeometry: first 0x100000000\nversion 1", "line 2: first: 4294967296 does not fit 4 bytes"),
+    ("version 2\nentry:\ngeometry: first 18446744073709551616", "line 3: first: 18446744073709551616 does not fit 8 bytes, which hold 0 to 18446744073709551615"),
+    ("version 256", "line 1: version: 256 does not fit 1 byte"),
+    ("version 2\nversion 2", "line 2: version is given twice"),
+    ("version two", "line 1: version: two is no number"),
 )
 
 
@@ -1079,6 +1262,8 @@ def test_make_errors():
     assert run.status == 1 and Walked(run.out).refusal[:2] == (5, 23) and "line 3: marks is 9, may be 0 to 3: the sheet is made, and is refused by 5" in run.err, run
     run = Run(box, "--make", input=b"counter 1\n")
     assert run.status == 1 and "alignment is 0" in run.err, run
+    run = Run(box, "--make", input=b"alignment 1\nversion 3\n")
+    assert run.status == 1 and run.out[0] == 3 and "line 2: version is 3, may be 1 or 2: the sheet is made, and is refused by 1" in run.err, run
 
 
 def test_make_of_anything():
@@ -1106,6 +1291,11 @@ def test_make_by_hand():
     assert refused is None and program(data) == program(sheet("usable"))
     same = "version 1\nalignment 0x100 # a comment\ncounter 1\n" + EXAMPLE.split("counter 1\n")[1].replace("size 36", "size 3_6 (a remark)").replace("BLAS_INPUT", "1")
     assert make(same)[0] == data
+    # either version, wherever it says so
+    for text in (f"version 2\n{EXAMPLE}", f"{EXAMPLE}version 2\n"):
+        assert make(text) == (converted(data), None)
+    far = make(f"version 2\n{EXAMPLE}".replace("stride 12, buffer", "stride 12, first 18446744073709551615, buffer"))[0]
+    assert Walked(far).tables[5].records[0].values["first"] == 2**64 - 1 and len(far) == len(data) + 4
     # present bytes follow from what is given, and can be given
     base = "alignment 1\nblas: kind triangles\n"
     for text, expected in (("index_count 0", (1, 0)), ("", (0, 0)), ("index_count_present 0, index_count 7", (0, 7))):
@@ -1156,7 +1346,11 @@ def test_pictures():
     text = drawing(build_of(("slots", 2, 1, 7)))
     assert "package 0, slot 2: blas is 7" in text and "Blas 7: outside the table" in text and "#c62828" in text
     assert "far off" not in text
-    drawing(put(sheet("usable"), 0, 1, 2))
+    # a refused count names no Blas
+    assert "Blas -1" not in drawing(reads.at_limit(2, 129)) and "Blas -1" not in drawing(reads.at_limit(2, 1)[:16])
+    assert "refused 1: version neither" in drawing(put(sheet("usable"), 0, 1, 3))
+    assert drawing(sheet("far-boxes")).count("<polygon") == 1 and drawing(converted(sheet("collection"))) == drawing(sheet("collection"))
+    assert "refused 23" in drawing(wide_build(("geometries", 3, 2, 2**63)))
     # transforms that are no numbers, or far from all others
     x = builds.base()
     odd = (0x7FC00001, 0x7F800000, 0xFF800000, bits(3e38), bits(-3e38), 1, 0x80000000)
@@ -1169,8 +1363,8 @@ def test_pictures():
             seen = text.count("<polygon") + text.count("not drawn")
             assert seen == 4, (k, field, text)
     choose = random.Random(3)
-    for _ in range(60):
-        drawing(random_sheet(choose))
+    for i in range(80):
+        drawing(random_sheet(choose, VERSIONS[i % 2]))
     for data in recorded()[::40]:
         drawing(data)
 
