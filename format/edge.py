@@ -1,11 +1,11 @@
 #!/usr/bin/env python3
 """What ./zakvind asks of Python, over kept files:
 
-    edge.py words   SHEET ANSWER NAME   the line that names the refused field or id, for a refusal of 1 to 6
+    edge.py words       SHEET ANSWER NAME           the line that names the refused field or id, for a refusal of 1 to 6
     edge.py unconverted SHEET ANSWER NAME VERSION   the same of a sheet that is not converted to VERSION, for 1 to 5 and 47
-    edge.py show    SHEET ANSWER NAME   the sheet as text
-    edge.py picture SHEET ANSWER NAME   the sheet from above, as SVG
-    edge.py make    TEXT OUT NAME       the sheet of a text
+    edge.py show        SHEET ANSWER NAME           the sheet as text
+    edge.py picture     SHEET ANSWER NAME           the sheet from above, as SVG
+    edge.py make        TEXT OUT NAME               the sheet of a text
 
 ANSWER has what the program printed for the sheet with its words; of `unconverted` those words alone. NAME is what to call the file. Status 0; 1: `make` made a sheet that its
 reader refuses; 2: what is wrong is said in one line on standard error.
