@@ -11,6 +11,8 @@ What long runs of the static library gave, each as the run printed it: written b
 `docs/DIFFERENCES.md` says what is compared and what could not be, `docs/ROBUSTNESS.md` how the boundary is tried.
 """
 EMPTY = {"compare": "## Against the Rust\n\nNot run.\n", "robust": "## At the boundary\n\nNot run.\n"}
+NAMES = """Of version 2: `sheet_2` reads a sheet, `wide` builds with all offsets below 2^32, `above` with one from 2^32 on, of which the Rust says nothing;
+`to_2` and `to_1` convert a sheet."""
 file = pathlib.Path(__file__).resolve().parent.parent / "docs/RUNS.md"
 
 
@@ -21,6 +23,7 @@ def number(text):
 def compare(command, lines):
     out = ["## Against the Rust", "", f"`{command}`: " + re.sub(r", [\d.]+ s:", ":", lines[-1]) + "."]
     marks = "the Rust's own | a stand-in's | the paper's |"
+    out += ["", NAMES]
     rows = [re.fullmatch(r"  (\w+) +(\d+) +(\d+) +(\d+) +(\d+)", line) for line in lines]
     parts = [re.fullmatch(r"  (.+?) +(\d+) +(\d+) +(\d+)", line) for line, row in zip(lines, rows) if not row]
     out += ["", f"| Call | No. | {marks}", "|---|---|---|---|---|"]
