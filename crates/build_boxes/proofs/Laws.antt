@@ -23,7 +23,7 @@ module _ (p region : ℕ) (known : region ≡ stopped p) where
 
   -- where neither it nor what else is tested is above the limit, it is below it, and is the product
   module _ (other above : Bool) (e : above ≡ (other || ltb limit32 region)) (f : above ≡ false) where
-    pub below : region ≤ limit32
+    below : region ≤ limit32
     below = ltb-false limit32 region (right-false other (ltb limit32 region) (sym e ∙ f))
 
     pub exact : region ≡ p

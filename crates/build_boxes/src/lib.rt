@@ -13,7 +13,7 @@ use ray_tracing::either;
 use scratch::saturating_mul;
 ghost use mathlib.Core.Path.{_≡_};
 ghost use mathlib.Core.Bool.{_||_};
-ghost use Prim.Native.Nat.{_*_};
+ghost use Prim.Native.Nat.{_+_, _*_};
 ghost use lib.Dec.{ltb};
 ghost use Rattle.scratch.specs.Scratch.{stopped};
 ghost use Rattle.ray_tracing.specs.Checks.{limit32};
@@ -24,6 +24,19 @@ const LIMIT: u64 = 4294967295;
 
 // The bytes of a box.
 const BOX_SIZE: u64 = 24;
+
+// Whether a region ends past a size: start plus region may pass 2^64 - 1.
+fn ends_past(start: u64, region: u64, size: u64) -> bool
+    ensures { λ r. ⌜ r ≡ ltb size (start + region) ⌝ }
+{
+    if size < region {
+        return true;
+    }
+    if size - region < start {
+        return true;
+    }
+    false
+}
 
 // 21, 22, 26, 23. The region and the test for 26 come first.
 fn check_region(g: BlasGeometry, boxes: Buffer) -> CheckedGeometry
@@ -40,7 +53,7 @@ fn judge_region(g: BlasGeometry, region: u64, above: bool, boxes: Buffer) -> Che
     ensures { λ r. ⌜ checkedOf r ≡ regionRule g boxes ⌝ }
 {
     let buffer = g.buffer;
-    let start = g.first as u64;
+    let start = g.first;
     if boxes.destroyed {
         return CheckedGeometry::Refused(Error::DestroyedResource(Resource::Buffer(buffer)));
     }
@@ -54,14 +67,14 @@ fn judge_region(g: BlasGeometry, region: u64, above: bool, boxes: Buffer) -> Che
             stride: g.stride,
         });
     }
-    let end = start + region;
-    if boxes.size < end {
+    if ends_past(start, region, boxes.size) {
         return CheckedGeometry::Refused(Error::InsufficientBufferSize {
             offset: start,
             region_size: region,
             buffer_size: boxes.size,
         });
     }
+    let end = start + region;
     CheckedGeometry::Fine {
         data: Range { buffer, start, end },
         index: Asked::Nothing,

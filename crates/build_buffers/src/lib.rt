@@ -23,6 +23,8 @@ ghost use Rattle.build_buffers.specs.Parts.{verticesOf, indexPartOf, tra
 
 const LIMIT: u64 = 4294967295;
 
+const MAX: u64 = 18446744073709551615;
+
 // What a transform's offset is a multiple of.
 const TRANSFORM_ALIGNMENT: u64 = 16;
 
@@ -37,14 +39,27 @@ pub enum Part {
     Refused(Error),
 }
 
+// Whether first plus count, times stride, is above a size. Where the sum passes 2^64 - 1 it is above any, unless the stride is 0.
+fn vertices_above(first: u64, count: u64, stride: u64, size: u64) -> bool
+    ensures { λ r. ⌜ r ≡ ltb size ((first + count) * stride) ⌝ }
+{
+    if stride == 0 {
+        return false;
+    }
+    if MAX - count < first {
+        return true;
+    }
+    product_above(first + count, stride, size)
+}
+
 // The vertices: 21, 22, 23. The products first, then the tests.
 fn check_vertices(g: BlasGeometry, vertices: Buffer) -> Vertices
     ensures { λ r. ⌜ verticesOf r ≡ verticesRule g vertices ⌝ }
 {
-    let last = g.first as u64 + g.count as u64;
-    let offset = saturating_mul(g.first as u64, g.stride);
-    let region = saturating_mul(g.count as u64, g.stride);
-    let over = product_above(last, g.stride, vertices.size);
+    let count = g.count as u64;
+    let offset = saturating_mul(g.first, g.stride);
+    let region = saturating_mul(count, g.stride);
+    let over = vertices_above(g.first, count, g.stride, vertices.size);
     judge_vertices(g, offset, region, over, vertices)
 }
 
