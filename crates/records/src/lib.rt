@@ -17,6 +17,7 @@ use ray_tracing::Tlas;
 use ray_tracing::TlasId;
 use ray_tracing::TlasPackage;
 use ray_tracing::Version;
+use ray_tracing::geometry_size;
 use wire::u8_at;
 use wire::u16_at;
 use wire::u32_at;
@@ -186,6 +187,14 @@ pub fn package_at(table: &[u8], at: usize) -> TlasPackage
         tlas: TlasId(u16_at(table, at)),
         slot_count: u16_at(table, at + 2),
     }
+}
+
+// Geometry g.
+pub fn geometry_of(version: Version, geometries: &[u8], g: usize) -> BlasGeometry
+    requires { ⌜ g < length (now geometries) / sizeIn version 6 ⌝ }
+    ensures { λ r. ⌜ r ≡ geometryAt version (now (geometries .entry)) (g * sizeIn version 6) ⌝ }
+{
+    geometry_at(version, geometries, g * geometry_size(version))
 }
 
 // The Blas of entry i.
