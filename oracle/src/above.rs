@@ -30,32 +30,34 @@ fn stopped(n: u128) -> u64 {
     n.min(u64::MAX.into()) as u64
 }
 
-/// The tables with lower offsets; None where none is from 2^32 on. An offset keeps what is left of it in eights, and its region fits as it
-/// did, or overruns a copy of its buffer that has no bytes.
-pub fn lowered(input: &Input) -> Option<Input> {
-    let above = |e: &Entry| e.geometries.iter().any(|g| g.first >= LIMIT);
-    input.entries.iter().any(above).then(|| {
-        let mut low = input.clone();
-        let there = input.buffers.len();
-        let kept = |id: u16| if usize::from(id) < there { id } else { OUTSIDE };
-        for (e, old) in low.entries.iter_mut().zip(&input.entries) {
-            for g in &mut e.geometries {
-                let buffer = input.buffers.get(usize::from(g.buffer));
-                let overrun = buffer.filter(|b| g.first >= LIMIT && overruns(old, g, b.size));
-                g.buffer = kept(g.buffer);
-                g.index_buffer = g.index_buffer.map(kept);
-                g.transform_buffer = g.transform_buffer.map(kept);
-                if g.first >= LIMIT {
-                    g.first = 8 + g.first % 8;
-                }
-                if let Some(b) = overrun {
-                    g.buffer = low.buffers.len() as u16;
-                    low.buffers.push(Buffer { size: 0, marks: b.marks });
-                }
+/// Whether there is an offset from 2^32 on.
+pub fn any(input: &Input) -> bool {
+    input.entries.iter().any(|e| e.geometries.iter().any(|g| g.first >= LIMIT))
+}
+
+/// The tables with lower offsets. An offset keeps what is left of it in eights, and its region fits as it did, or overruns a copy of its
+/// buffer that has no bytes.
+pub fn lowered(input: &Input) -> Input {
+    let mut low = input.clone();
+    let there = input.buffers.len();
+    let kept = |id: u16| if usize::from(id) < there { id } else { OUTSIDE };
+    for (e, old) in low.entries.iter_mut().zip(&input.entries) {
+        for g in &mut e.geometries {
+            let buffer = input.buffers.get(usize::from(g.buffer));
+            let overrun = buffer.filter(|b| g.first >= LIMIT && overruns(old, g, b.size));
+            g.buffer = kept(g.buffer);
+            g.index_buffer = g.index_buffer.map(kept);
+            g.transform_buffer = g.transform_buffer.map(kept);
+            if g.first >= LIMIT {
+                g.first = 8 + g.first % 8;
+            }
+            if let Some(b) = overrun {
+                g.buffer = low.buffers.len() as u16;
+                low.buffers.push(Buffer { size: 0, marks: b.marks });
             }
         }
-        low
-    })
+    }
+    low
 }
 
 /// The refusal with the offsets as they are: the buffer's own number, and the figures of a region that overruns.

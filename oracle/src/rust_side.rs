@@ -251,7 +251,7 @@ fn scratch_tested(answer: &Result<Built, Refused>) -> bool {
 /// A build by the Rust, and what it was driven on. That it is a 37 the Rust decides; its E and first figure, which the Rust has not, are the
 /// paper's. Both must say whether there is one: where only one does, it stops here and is told as a difference, and no place is made up.
 fn build(input: &Input) -> (World, Result<Built, Refused>) {
-    let low = above::lowered(input);
+    let low = above::any(input).then(|| above::lowered(input));
     let driven = low.as_ref().unwrap_or(input);
     let w = World::new(driven);
     let mut answer = drive::build(&w, driven);
@@ -273,7 +273,7 @@ fn build(input: &Input) -> (World, Result<Built, Refused>) {
 fn call(version: Version, input: &Input) -> &'static str {
     match version {
         Version::One => "build",
-        Version::Two if above::lowered(input).is_some() => "above",
+        Version::Two if above::any(input) => "above",
         Version::Two => "wide",
     }
 }
