@@ -9,7 +9,8 @@ use lib.ListN.{length, take, drop, length-drop}
 use lib.Seq.{sets, length-sets, take-add, take-at, drop-at, length-take-le, drop-drop}
 use Rattle.wire.specs.Wire.{leAt}
 use Rattle.wire.proofs.Laws.{le-drop, le-take}
-use Rattle.ray_tracing.specs.Layout.{Seen, Field, layout, total, size}
+use Rattle.ray_tracing.specs.declared.Version.{Version}
+use Rattle.ray_tracing.specs.Layout.{Seen, Field, layoutIn, total, sizeIn}
 use Rattle.ray_tracing.specs.Canonical.{canonicalRecord}
 use Rattle.sheet_clear.specs.Cleared.{keptIf, clearedUnless, recordCleared}
 use Rattle.sheet_clear.proofs.Writes.{write-same, write-next, length-kept, kept-join}
@@ -100,20 +101,22 @@ steps-kept (run u n x) at k s h (m, (e, r)) =
     ∙ write-next (kept x) v s (at + k) (at + (k + n)) (rw l p) e
     ∙ rw (← p, ← drop-drop n (at + k) s)
 
--- a record of section k that begins with fields of the widths ns, which are always used, and whose other groups were cleared in turn
+-- a record of section k that begins with fields of the widths ns, which are always used, and whose other groups, from j bytes past p on, were
+-- cleared in turn
 pub record-cleared :
-    (k : ℕ) (c : Seen) (ns : List ℕ) (g : Groups) (s : List ℕ) (at : ℕ) {t : List ℕ}
-    → at + size k ≤ length s
-    → size k ≡ sum ns + bytes (joined g)
-    → runsFrom (layout k .fields) c s at 0 ≡ spread (group true ns g)
-    → Steps (joined g) at (sum ns) s t
-    → t ≡ sets s at (recordCleared k c s at)
+    (v : Version) (k : ℕ) (c : Seen) (ns : List ℕ) (g : Groups) (s : List ℕ) (at p j : ℕ) {t : List ℕ}
+    → at + sizeIn v k ≤ length s
+    → sizeIn v k ≡ sum ns + bytes (joined g)
+    → at + sum ns ≡ p + j
+    → runsFrom (layoutIn v k .fields) c s at 0 ≡ spread (group true ns g)
+    → Steps (joined g) p j s t
+    → t ≡ sets s at (recordCleared v k c s at)
 unfolding kept
-record-cleared k c ns g s at h w e r =
-    let v = take (sum ns) (drop at s) in
-    let l : length v ≡ sum ns = length-kept true (sum ns) (drop at s) (simp length-drop (omega arith)) in
-    let z : at + (0 + size k) ≤ length s = omega arith in
-    let x : recordCleared k c s at ≡ kept (joined (group true ns g)) (drop at s) = rw (add-zero, e) at (canonical-runs (layout k .fields) c s at 0 z) ∙ groups-join (group true ns g) (drop at s) in
-    steps-kept (joined g) at (sum ns) s (omega arith) r
-    ∙ write-next (kept (joined g)) v s at (at + sum ns) (rw l refl) (sym (write-same s at (sum ns) (omega arith)))
-    ∙ rw (x, ← drop-drop (sum ns) at s)
+record-cleared v k c ns g s at p j h w q e r =
+    let f = take (sum ns) (drop at s) in
+    let l : length f ≡ sum ns = length-kept true (sum ns) (drop at s) (simp length-drop (omega arith)) in
+    let z : at + (0 + sizeIn v k) ≤ length s = omega arith in
+    let x : recordCleared v k c s at ≡ kept (joined (group true ns g)) (drop at s) = rw (add-zero, e) at (canonical-runs (layoutIn v k .fields) c s at 0 z) ∙ groups-join (group true ns g) (drop at s) in
+    steps-kept (joined g) p j s (omega arith) r
+    ∙ write-next (kept (joined g)) f s at (p + j) (rw l q) (sym (write-same s at (sum ns) (omega arith)))
+    ∙ rw (x, ← q, ← drop-drop (sum ns) at s)

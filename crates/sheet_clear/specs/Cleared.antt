@@ -7,7 +7,8 @@ use lib.ListN.{length, take, drop, replicate}
 use lib.Seq.{sets}
 use lib.Dec.{eqb}
 use Rattle.wire.specs.Wire.{leAt}
-use Rattle.ray_tracing.specs.Layout.{Seen, layout, size}
+use Rattle.ray_tracing.specs.declared.Version.{Version}
+use Rattle.ray_tracing.specs.Layout.{Seen, layoutIn, size, sizeIn}
 use Rattle.ray_tracing.specs.Canonical.{canonicalRecord}
 
 -- the sections that have fields which may be unused
@@ -22,8 +23,9 @@ keptIf used n r = cond used (take n r) (replicate n 0)
 abbrev pub clearedUnless : Bool → List ℕ → ℕ → ℕ → List ℕ
 clearedUnless used s at n = sets s at (keptIf used n (drop at s))
 
-abbrev pub recordCleared : ℕ → Seen → List ℕ → ℕ → List ℕ
-recordCleared k c s at = canonicalRecord (layout k .fields) c (take (size k) (drop at s))
+-- a record of a section of a version
+abbrev pub recordCleared : Version → ℕ → Seen → List ℕ → ℕ → List ℕ
+recordCleared v k c s at = canonicalRecord (layoutIn v k .fields) c (take (sizeIn v k) (drop at s))
 
 -- the Blases of n declared geometries from a place on are inside their table
 abbrev pub BlasesInside : ℕ → List ℕ → List ℕ → ℕ → ℕ → Type 0

@@ -1,7 +1,10 @@
 // Unused fields made zero where their records stand.
 use ray_tracing::BLAS_SIZE;
+use ray_tracing::GEOMETRY_SIZE;
 use ray_tracing::NO_BUFFER;
+use ray_tracing::Version;
 use ray_tracing::both;
+use ray_tracing::geometry_size;
 use sheet_layout::size_of;
 use wire::u8_at;
 use wire::u16_at;
@@ -12,7 +15,8 @@ ghost use Prim.Native.Nat.{_+_, _-_, _*_, _/_, _≤_, _<_};
 ghost use lib.ListN.{length, drop, replicate};
 ghost use lib.Seq.{sets};
 ghost use Rattle.wire.specs.Wire.{leAt};
-ghost use Rattle.ray_tracing.specs.Layout.{Seen, kindKnown, size};
+ghost use Rattle.ray_tracing.specs.declared.Version.{Version};
+ghost use Rattle.ray_tracing.specs.Layout.{Seen, kindKnown, size, sizeIn};
 ghost use Rattle.ray_tracing.specs.Reading.{begin, sumOfCounts};
 ghost use Rattle.ray_tracing.specs.Meaning.{recordsFrom, drawnFrom};
 ghost use Rattle.ray_tracing.specs.Canonical.{heldCanonical};
@@ -42,8 +46,8 @@ fn clear_unless(out: &mut [u8], at: usize, n: usize, used: bool)
 fn clear_declared_of(out: &mut [u8], at: usize, boxes: bool)
     requires { ⌜ at + size 3 ≤ length (now out) ⌝ }
     ensures { λ _. ⌜
-        ((c : Seen) → kindKnown c (leAt 2 (now (out .entry)) at) .boxes ≡ boxes →
-        now (out .exit) ≡ sets (now (out .entry)) at (recordCleared 3 c (now (out .entry)) at))
+        ((v : Version) (c : Seen) → kindKnown c (leAt 2 (now (out .entry)) at) .boxes ≡ boxes →
+        now (out .exit) ≡ sets (now (out .entry)) at (recordCleared v 3 c (now (out .entry)) at))
         ⌝ }
 {
     let triangles = !boxes;
@@ -57,20 +61,23 @@ fn clear_declared(out: &mut [u8], at: usize, blases: &[u8])
         (at + size 3 ≤ length (now out)) × (leAt 2 (now out) at < length (now blases) / size 2)
         ⌝ }
     ensures { λ _. ⌜
-        ((boxes : Bool) → now (out .exit) ≡
-        sets (now (out .entry)) at (recordCleared 3 (begin (size 2) (now (blases .entry)) boxes) (now (out .entry)) at))
+        ((v : Version) (boxes : Bool) → now (out .exit) ≡
+        sets (now (out .entry)) at (recordCleared v 3 (begin (size 2) (now (blases .entry)) boxes) (now (out .entry)) at))
         ⌝ }
 {
     let blas = u16_at(out, at) as usize;
     clear_declared_of(out, at, blases[blas * BLAS_SIZE] == 1);
 }
 
-fn clear_geometry(out: &mut [u8], at: usize, boxes: bool)
-    requires { ⌜ at + size 6 ≤ length (now out) ⌝ }
+// What may be unused stands after the offset: as many bytes further as that is wider.
+fn clear_geometry(version: Version, out: &mut [u8], at: usize, boxes: bool)
+    requires { ⌜ at + sizeIn version 6 ≤ length (now out) ⌝ }
     ensures { λ _. ⌜
-        ((c : Seen) → c .boxes ≡ boxes → now (out .exit) ≡ sets (now (out .entry)) at (recordCleared 6 c (now (out .entry)) at))
+        ((c : Seen) → c .boxes ≡ boxes →
+        now (out .exit) ≡ sets (now (out .entry)) at (recordCleared version 6 c (now (out .entry)) at))
         ⌝ }
 {
+    let at = at + (geometry_size(version) - GEOMETRY_SIZE);
     let triangles = !boxes;
     let counted = both(triangles, u8_at(out, at + 23) != 0);
     let indexed = both(triangles, u16_at(out, at + 21) != NO_BUFFER);
@@ -88,7 +95,7 @@ fn clear_geometry(out: &mut [u8], at: usize, boxes: bool)
 
 fn clear_slot(out: &mut [u8], at: usize)
     requires { ⌜ at + size 8 ≤ length (now out) ⌝ }
-    ensures { λ _. ⌜ ((c : Seen) → now (out .exit) ≡ sets (now (out .entry)) at (recordCleared 8 c (now (out .entry)) at)) ⌝ }
+    ensures { λ _. ⌜ ((v : Version) (c : Seen) → now (out .exit) ≡ sets (now (out .entry)) at (recordCleared v 8 c (now (out .entry)) at)) ⌝ }
 {
     let present = u8_at(out, at) != 0;
     clear_unless(out, at + 1, 55, present);
@@ -96,7 +103,7 @@ fn clear_slot(out: &mut [u8], at: usize)
 
 fn clear_action(out: &mut [u8], at: usize)
     requires { ⌜ at + size 9 ≤ length (now out) ⌝ }
-    ensures { λ _. ⌜ ((c : Seen) → now (out .exit) ≡ sets (now (out .entry)) at (recordCleared 9 c (now (out .entry)) at)) ⌝ }
+    ensures { λ _. ⌜ ((v : Version) (c : Seen) → now (out .exit) ≡ sets (now (out .entry)) at (recordCleared v 9 c (now (out .entry)) at)) ⌝ }
 {
     let operand = u8_at(out, at) != 1;
     clear_unless(out, at + 1, 2, operand);
@@ -104,20 +111,27 @@ fn clear_action(out: &mut [u8], at: usize)
 
 // A record of a section that has fields which may be unused; `before` is the records of the section before, and `boxes` whether the
 // record's kind is boxes.
-fn clear_record(out: &mut [u8], at: usize, section: usize, before: &[u8], boxes: bool)
+fn clear_record(
+    version: Version,
+    out: &mut [u8],
+    at: usize,
+    section: usize,
+    before: &[u8],
+    boxes: bool,
+)
     requires { ⌜
         ((section < 10) × (hasUnused section ≡ true))
-        × ((at + size section ≤ length (now out)) × BlasesInside section (now before) (now out) at 1)
+        × ((at + sizeIn version section ≤ length (now out)) × BlasesInside section (now before) (now out) at 1)
         ⌝ }
     ensures { λ _. ⌜
         now (out .exit) ≡
         sets (now (out .entry)) at
-        (recordCleared section (begin (size (section - 1)) (now (before .entry)) boxes) (now (out .entry)) at)
+        (recordCleared version section (begin (sizeIn version (section - 1)) (now (before .entry)) boxes) (now (out .entry)) at)
         ⌝ }
 {
     match section {
         3 => clear_declared(out, at, before),
-        6 => clear_geometry(out, at, boxes),
+        6 => clear_geometry(version, out, at, boxes),
         8 => clear_slot(out, at),
         _ => clear_action(out, at),
     }
@@ -125,6 +139,7 @@ fn clear_record(out: &mut [u8], at: usize, section: usize, before: &[u8], boxes:
 
 // n records, from a place on.
 pub fn clear_records(
+    version: Version,
     out: &mut [u8],
     at: usize,
     n: usize,
@@ -134,48 +149,48 @@ pub fn clear_records(
 )
     requires { ⌜
         ((section < 10) × (hasUnused section ≡ true))
-        × ((at + n * size section ≤ length (now out)) × BlasesInside section (now before) (now out) at n)
+        × ((at + n * sizeIn version section ≤ length (now out)) × BlasesInside section (now before) (now out) at n)
         ⌝ }
     ensures { λ _. ⌜
         now (out .exit) ≡
         sets (now (out .entry)) at
         (flatten
-        (map (heldCanonical section)
-        (recordsFrom (begin (size (section - 1)) (now (before .entry)) boxes) (size section) (drop at (now (out .entry))) n)))
+        (map (heldCanonical version section)
+        (recordsFrom (begin (sizeIn version (section - 1)) (now (before .entry)) boxes) (sizeIn version section) (drop at (now (out .entry))) n)))
         ⌝ }
 {
-    let size = size_of(section);
+    let size = size_of(version, section);
     let mut p = at;
     let mut left = n;
     while 0 < left {
-        clear_record(out, p, section, before, boxes);
+        clear_record(version, out, p, section, before, boxes);
         p += size;
         left -= 1;
     }
 }
 
 // The geometries that the entries draw in turn, each by its entry's kind.
-pub fn clear_drawn(out: &mut [u8], at: usize, entries: &[u8])
+pub fn clear_drawn(version: Version, out: &mut [u8], at: usize, entries: &[u8])
     requires { ⌜
-        at + sumOfCounts (now entries) (size 5) 3 (length (now entries) / size 5) * size 6 ≤ length (now out)
+        at + sumOfCounts (now entries) (size 5) 3 (length (now entries) / size 5) * sizeIn version 6 ≤ length (now out)
         ⌝ }
     ensures { λ _. ⌜
         now (out .exit) ≡
         sets (now (out .entry)) at
         (flatten
-        (map (heldCanonical 6)
-        (drawnFrom (now (entries .entry)) 0 (drop at (now (out .entry))) (length (now (entries .entry)) / size 5))))
+        (map (heldCanonical version 6)
+        (drawnFrom version (now (entries .entry)) 0 (drop at (now (out .entry))) (length (now (entries .entry)) / size 5))))
         ⌝ }
 {
-    let each = size_of(5);
-    let size = size_of(6);
+    let each = size_of(version, 5);
+    let size = size_of(version, 6);
     let mut p = at;
     let mut q = 0;
     let mut left = entries.len() / each;
     while 0 < left {
         let boxes = u8_at(entries, q + 2) == 1;
         let n = u16_at(entries, q + 3) as usize;
-        clear_records(out, p, n, 6, entries, boxes);
+        clear_records(version, out, p, n, 6, entries, boxes);
         p += n * size;
         q += each;
         left -= 1;

@@ -25,8 +25,8 @@ same-length : tie.Need-same-length
 same-length c = search needs
 
 returns : tie.Need-returns
-returns c boxes =
-    c .before .before .clear-declared-of .ensures (begin (size 2) (c .before .before .before .before .before .before .before .before .before .args .blases .now) boxes) (rw (c .before .before .before .before .before .u16-at .ensures) refl)
+returns c v boxes =
+    c .before .before .clear-declared-of .ensures v (begin (size 2) (c .before .before .before .before .before .before .before .before .before .args .blases .now) boxes) (rw (c .before .before .before .before .before .u16-at .ensures) refl)
 
 pub clear-declared-spec : {M : Type 1} → statement M
 clear-declared-spec =

@@ -33,16 +33,20 @@ same-length : tie.Need-same-length
 same-length c = search needs
 
 returns : tie.Need-returns
-returns c seen known =
+returns c v seen known =
     let a = c .before .before .before .before .before .before .before .before .before .before .before .before .args in
     record-cleared
+    v
     3
     seen
     (2 ∷ 1 ∷ 4 ∷ [])
     (group (not (a .boxes)) (1 ∷ 2 ∷ 2 ∷ 1 ∷ 1 ∷ []) (group (c .before .before .before .before .before .before .before .before .both .result) (4 ∷ []) end))
     (a .out .now)
     (a .at)
+    (a .at)
+    7
     (c .before .before .before .before .before .before .before .before .before .before .before .before .pre)
+    refl
     refl
     (rw (add-zero, c .before .before .before .before .before .before .before .before .both .ensures, c .before .before .before .before .before .before .before .before .before .u8-at .ensures, ← known))
     (_, (c .before .before .before .before .before .before .clear-unless .ensures, (_, (c .before .before .clear-unless2 .ensures, refl))))

@@ -6,21 +6,21 @@ use mathlib.Core.List.{flatten}
 use lib.ListN.{length}
 use lib.Seq.{sets}
 use borrow.Author.Needs.{needs}
-use Rattle.ray_tracing.specs.Layout.{size}
+use Rattle.ray_tracing.specs.Layout.{size, sizeIn}
 use Rattle.ray_tracing.specs.Reading.{sumOfCounts}
 use Rattle.ray_tracing.specs.Meaning.{drawnFrom}
-use Rattle.sheet_clear.proofs.Records.{drawnCleared, drawn-next, drawn-sum}
+use Rattle.sheet_clear.proofs.Records.{drawnCleared, drawn-next, drawn-there}
 use Rattle.sheet_clear.proofs.clear_drawn.Statement.{statement}
 use Rattle.sheet_clear.proofs.clear_drawn.Tie as tie
 
 abbrev Inv-loop : tie.InvT-loop
-Inv-loop out₀ at entries each w p₀ q₀ left₀ out p q left =
-    ((p + sumOfCounts entries (size 5) (q + 3) left * size 6 ≤ length out) × (length out ≡ length out₀))
+Inv-loop version out₀ at entries each w p₀ q₀ left₀ out p q left =
+    ((p + sumOfCounts entries (size 5) (q + 3) left * sizeIn version 6 ≤ length out) × (length out ≡ length out₀))
     × ((q + size 5 * left ≤ length entries)
-    × (sets out p (drawnCleared entries q out p left) ≡ sets out₀ at (drawnCleared entries 0 out₀ at (length entries / size 5))))
+    × (sets out p (drawnCleared version entries q out p left) ≡ sets out₀ at (drawnCleared version entries 0 out₀ at (length entries / size 5))))
 
 abbrev μ-loop : tie.MeasureT-loop
-μ-loop out₀ at entries each w p₀ q₀ left₀ out p q left = left
+μ-loop version out₀ at entries each w p₀ q₀ left₀ out p q left = left
 
 size-of-requires : tie.Need-size-of-requires Inv-loop μ-loop
 size-of-requires c κs = search needs
@@ -54,8 +54,9 @@ next-there :
     (c : tie.After-u16-at Inv-loop μ-loop)
     → c .before .before .before .loop .p + c .u16-at .result * c .before .before .before .before .size-of2 .result ≤ length (c .before .before .before .loop .out)
 next-there c =
-    rw (c .before .before .before .before .size-of2 .ensures)
-    (omega (arith, drawn-sum (c .before .before .before .before .before .before .before .before .args .entries .now) (c .before .before .before .loop .q) (c .before .before .before .loop .left) (c .before .before .loop-test .taken), c .u16-at .ensures))
+    let l = c .before .before .before .loop in
+    rw (c .u16-at .ensures, c .before .before .before .before .size-of2 .ensures)
+    (drawn-there _ (l .q) (l .left) _ (l .p) _ (c .before .before .loop-test .taken) (l .inv .0 .0) .0)
 
 clear-records-requires : tie.Need-clear-records-requires Inv-loop μ-loop
 clear-records-requires c κs = ((omega arith, refl), (rw (c .before .before .before .before .before .size-of2 .ensures) at (next-there (c .before)), λ e. absurd (omega arith)))
@@ -77,16 +78,17 @@ loop-less c = search needs
 
 loop-again : tie.Need-loop-again Inv-loop μ-loop
 loop-again c =
+    let v = c .before .before .before .before .before .before .before .before .before .before .before .before .args .version in
     let e = c .before .before .before .before .before .before .before .before .before .before .before .before .args .entries .now in
     let l = c .before .before .before .before .before .before .before .loop in
     let taken = c .before .before .before .before .before .before .loop-test .taken in
     let there = next-there (c .before .before .before .before) in
     let made = c .before .before .clear-records .ensures in
     rw (c .before .before .before .before .before .before .before .before .size-of2 .ensures, c .before .before .before .before .before .before .before .before .before .size-of .ensures, c .before .before .before .before .u16-at .ensures) (
-      (omega (arith, drawn-sum e (l .q) (l .left) taken), search needs),
+      (omega (arith, drawn-there e (l .q) (l .left) (sizeIn v 6) (l .p) (length (l .out)) taken (l .inv .0 .0) .1), search needs),
       (
         omega arith,
-        drawn-next e (l .q) (l .out) (l .p) (l .left) (rw (c .before .before .before .before .before .before .before .before .size-of2 .ensures, c .before .before .before .before .u16-at .ensures) at there) taken (made ∙ rw (c .before .before .before .before .before .u8-at .ensures, c .before .before .before .before .u16-at .ensures))
+        drawn-next v e (l .q) (l .out) (l .p) (l .left) (rw (c .before .before .before .before .before .before .before .before .size-of2 .ensures, c .before .before .before .before .u16-at .ensures) at there) taken (made ∙ rw (c .before .before .before .before .before .u8-at .ensures, c .before .before .before .before .u16-at .ensures))
             ∙ l .inv .1 .1,
       ),
     )

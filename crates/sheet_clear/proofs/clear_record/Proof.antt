@@ -36,7 +36,7 @@ same-length : tie.Need-same-length
 same-length c = search needs
 
 returns : tie.Need-returns
-returns c = rw (c .before .before .before .before .match .keys1) (c .before .before .clear-declared .ensures (c .before .before .before .before .before .before .before .args .boxes))
+returns c = rw (c .before .before .before .before .match .keys1) (c .before .before .clear-declared .ensures (c .before .before .before .before .before .before .before .args .version) (c .before .before .before .before .before .before .before .args .boxes))
 
 same-length-2 : tie.Need-same-length-2
 same-length-2 c = search needs
@@ -48,13 +48,13 @@ same-length-3 : tie.Need-same-length-3
 same-length-3 c = search needs
 
 returns-3 : tie.Need-returns-3
-returns-3 c = rw (c .before .before .before .before .match .keys3) (c .before .before .clear-slot .ensures (begin (size 7) (c .before .before .before .before .before .before .before .args .before .now) (c .before .before .before .before .before .before .before .args .boxes)))
+returns-3 c = rw (c .before .before .before .before .match .keys3) (c .before .before .clear-slot .ensures (c .before .before .before .before .before .before .before .args .version) (begin (size 7) (c .before .before .before .before .before .before .before .args .before .now) (c .before .before .before .before .before .before .before .args .boxes)))
 
 same-length-4 : tie.Need-same-length-4
 same-length-4 c = search needs
 
 returns-4 : tie.Need-returns-4
-returns-4 c = rw (ninth (c .before .before .before .before)) (c .before .before .clear-action .ensures (begin (size 8) (c .before .before .before .before .before .before .before .args .before .now) (c .before .before .before .before .before .before .before .args .boxes)))
+returns-4 c = rw (ninth (c .before .before .before .before)) (c .before .before .clear-action .ensures (c .before .before .before .before .before .before .before .args .version) (begin (size 8) (c .before .before .before .before .before .before .before .args .before .now) (c .before .before .before .before .before .before .before .args .boxes)))
 
 pub clear-record-spec : {M : Type 1} → statement M
 clear-record-spec =

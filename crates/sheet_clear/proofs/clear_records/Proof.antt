@@ -6,7 +6,7 @@ use mathlib.Core.List.{flatten}
 use lib.ListN.{length}
 use lib.Seq.{sets}
 use borrow.Author.Needs.{needs}
-use Rattle.ray_tracing.specs.Layout.{size}
+use Rattle.ray_tracing.specs.Layout.{sizeIn}
 use Rattle.ray_tracing.specs.Reading.{begin}
 use Rattle.ray_tracing.specs.Meaning.{recordsFrom}
 use Rattle.ray_tracing.proofs.Reading.{one-less}
@@ -16,14 +16,14 @@ use Rattle.sheet_clear.proofs.clear_records.Statement.{statement}
 use Rattle.sheet_clear.proofs.clear_records.Tie as tie
 
 abbrev Inv-loop : tie.InvT-loop
-Inv-loop out₀ at n section before boxes each p₀ left₀ out p left =
-    ((p + left * size section ≤ length out) × (length out ≡ length out₀))
+Inv-loop version out₀ at n section before boxes each p₀ left₀ out p left =
+    ((p + left * sizeIn version section ≤ length out) × (length out ≡ length out₀))
     × (BlasesInside section before out p left
-    × (sets out p (recordsCleared section (begin (size (section - 1)) before boxes) out p left)
-    ≡ sets out₀ at (recordsCleared section (begin (size (section - 1)) before boxes) out₀ at n)))
+    × (sets out p (recordsCleared version section (begin (sizeIn version (section - 1)) before boxes) out p left)
+    ≡ sets out₀ at (recordsCleared version section (begin (sizeIn version (section - 1)) before boxes) out₀ at n)))
 
 abbrev μ-loop : tie.MeasureT-loop
-μ-loop out₀ at n section before boxes each p₀ left₀ out p left = left
+μ-loop version out₀ at n section before boxes each p₀ left₀ out p left = left
 
 size-of-requires : tie.Need-size-of-requires Inv-loop μ-loop
 size-of-requires c κs = search needs
@@ -32,8 +32,8 @@ loop-holds : tie.Need-loop-holds Inv-loop μ-loop
 loop-holds c = ((c .before .before .before .pre .1 .0, refl), (c .before .before .before .pre .1 .1, refl))
 
 -- the next record is there
-next-there : (c : tie.In-loop Inv-loop μ-loop) → c .before .loop .p + size (c .before .before .before .before .before .args .section) ≤ length (c .before .loop .out)
-next-there c = omega (arith, one-less (c .before .loop .left) (size (c .before .before .before .before .before .args .section)) (c .loop-test .taken))
+next-there : (c : tie.In-loop Inv-loop μ-loop) → c .before .loop .p + sizeIn (c .before .before .before .before .before .args .version) (c .before .before .before .before .before .args .section) ≤ length (c .before .loop .out)
+next-there c = omega (arith, one-less (c .before .loop .left) (sizeIn (c .before .before .before .before .before .args .version) (c .before .before .before .before .before .args .section)) (c .loop-test .taken))
 
 clear-record-requires : tie.Need-clear-record-requires Inv-loop μ-loop
 clear-record-requires c κs = (c .before .before .before .before .before .before .pre .0, (next-there (c .before), λ e i h. c .before .before .loop .inv .1 .0 e i (omega arith)))
@@ -51,14 +51,14 @@ loop-again : tie.Need-loop-again Inv-loop μ-loop
 loop-again c =
     let a = c .before .before .before .before .before .before .before .before .before .args in
     let l = c .before .before .before .before .before .loop in
-    let seen = begin (size (a .section - 1)) (a .before .now) (a .boxes) in
+    let seen = begin (sizeIn (a .version) (a .section - 1)) (a .before .now) (a .boxes) in
     let there = next-there (c .before .before .before .before) in
     let made = c .before .before .clear-record .ensures in
     rw (c .before .before .before .before .before .before .size-of .ensures) (
-      (omega (arith, one-less (l .left) (size (a .section)) (c .before .before .before .before .loop-test .taken)), search needs),
+      (omega (arith, one-less (l .left) (sizeIn (a .version) (a .section)) (c .before .before .before .before .loop-test .taken)), search needs),
       (
-        blases-next (a .section) seen (a .before .now) (l .out) (l .p) (l .left) there made (l .inv .1 .0),
-        records-next (a .section) seen (l .out) (l .p) (l .left) there (c .before .before .before .before .loop-test .taken) made ∙ l .inv .1 .1,
+        blases-next (a .version) (a .section) seen (a .before .now) (l .out) (l .p) (l .left) there made (l .inv .1 .0),
+        records-next (a .version) (a .section) seen (l .out) (l .p) (l .left) there (c .before .before .before .before .loop-test .taken) made ∙ l .inv .1 .1,
       ),
     )
 
