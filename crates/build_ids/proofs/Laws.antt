@@ -5,16 +5,18 @@ use mathlib.Core.Path.{_≡_, sym, ap, _∙_}
 use mathlib.Core.List.{List, []}
 use lib.Dec.{eqb}
 use borrow.Author.Tests.{eq-eqb, ne-eqb}
+use Rattle.ray_tracing.specs.declared.Version.{Version}
 use Rattle.ray_tracing.specs.declared.BlasBuildEntry.{BlasBuildEntry}
 use Rattle.ray_tracing.specs.declared.BlasGeometry.{BlasGeometry}
 use Rattle.ray_tracing.specs.declared.TlasPackage.{TlasPackage}
+use Rattle.ray_tracing.specs.Layout.{sizeIn}
 use Rattle.ray_tracing.specs.Records.{entryAt, geometryAt, packageAt}
 use Rattle.ray_tracing.specs.Causes.{Cause}
 use Rattle.ray_tracing.specs.Mentions.{bufferMention, blasMention, tlasMention}
 use Rattle.ray_tracing.specs.Instances.{slotMention}
 use Rattle.ray_tracing.specs.Plan.{Verdict, passed, refused, _or_, atE, firstOf, geometryCount, slotCount, geometryIds, entryIds, slotIds, packageIds}
 use Rattle.ray_tracing.proofs.Verdicts.{or-none}
-use Rattle.ray_tracing.specs.Parts.{forPackages, forEntries}
+use Rattle.ray_tracing.specs.Parts.{forPackages, forEntries, ofEntries}
 
 -- the first of two, by what was found of the first
 
@@ -28,14 +30,14 @@ or-second p q r = r ∙ rw (sym p ∙ q)
 abbrev optional : List ℕ → ℕ → ℕ
 optional buffers id = cond (eqb id 65535) 0 (bufferMention buffers id)
 
-module _ (buffers entries geometries : List ℕ) (i j g : ℕ) {entry : BlasBuildEntry} {geometry : BlasGeometry} (e : entry ≡ entryAt entries (i * 5)) (h : geometry ≡ geometryAt geometries (g * 44)) where
+module _ (version : Version) (buffers entries geometries : List ℕ) (i j g : ℕ) {entry : BlasBuildEntry} {geometry : BlasGeometry} (e : entry ≡ entryAt entries (i * 5)) (h : geometry ≡ geometryAt version geometries (g * sizeIn version 6)) where
   -- boxes have a data buffer only
   pub of-boxes :
       {v : Verdict} {m : ℕ}
       → v ≡ atE i j m
       → m ≡ bufferMention buffers (geometry .buffer .0)
       → (entry .kind ≡ 0 → ⊥)
-      → v ≡ geometryIds (forEntries buffers [] [] entries geometries) i j g
+      → v ≡ geometryIds (forEntries version buffers [] [] entries geometries) i j g
   of-boxes p q k =
       let z : eqb (entryAt entries (i * 5) .kind) 0 ≡ eqb (entry .kind) 0 = ap (λ (b : BlasBuildEntry). eqb (b .kind) 0) (sym e) in
       let m = ap (λ (b : BlasGeometry). bufferMention buffers (b .buffer .0)) h in
@@ -52,7 +54,7 @@ module _ (buffers entries geometries : List ℕ) (i j g : ℕ) {entry : BlasBuil
       → t ≡ atE i j m₂
       → m₂ ≡ optional buffers (geometry .«transform_buffer» .0)
       → entry .kind ≡ 0
-      → v ≡ geometryIds (forEntries buffers [] [] entries geometries) i j g
+      → v ≡ geometryIds (forEntries version buffers [] [] entries geometries) i j g
   of-triangles p r a a′ b b′ c c′ k =
       let z : eqb (entryAt entries (i * 5) .kind) 0 ≡ eqb (entry .kind) 0 = ap (λ (b : BlasBuildEntry). eqb (b .kind) 0) (sym e) in
       let a″ = a′ ∙ ap (λ (b : BlasGeometry). bufferMention buffers (b .buffer .0)) h in
@@ -62,17 +64,17 @@ module _ (buffers entries geometries : List ℕ) (i j g : ℕ) {entry : BlasBuil
 
 -- an entry's ids: its geometries', then its Blas
 pub of-entry :
-    (buffers blases entries geometries : List ℕ) (i g count : ℕ) {entry : BlasBuildEntry} {v d b : Verdict} {m : ℕ}
+    (version : Version) (buffers blases entries geometries : List ℕ) (i g count : ℕ) {entry : BlasBuildEntry} {v d b : Verdict} {m : ℕ}
     → entry ≡ entryAt entries (i * 5)
-    → count ≡ geometryCount (forEntries [] [] [] entries []) i
+    → count ≡ geometryCount (ofEntries [] entries) i
     → v ≡ (d or b)
-    → d ≡ firstOf (λ j. geometryIds (forEntries buffers [] [] entries geometries) i j (g + j)) 0 count
+    → d ≡ firstOf (λ j. geometryIds (forEntries version buffers [] [] entries geometries) i j (g + j)) 0 count
     → b ≡ atE i 0 m
     → m ≡ blasMention blases (entry .blas .0)
-    → v ≡ entryIds (forEntries buffers blases [] entries geometries) i g
-of-entry buffers blases entries geometries i g count e n p q b m =
+    → v ≡ entryIds (forEntries version buffers blases [] entries geometries) i g
+of-entry version buffers blases entries geometries i g count e n p q b m =
     let m′ = m ∙ ap (λ (y : BlasBuildEntry). blasMention blases (y .blas .0)) e in
-    let q′ = q ∙ ap (firstOf (λ j. geometryIds (forEntries buffers [] [] entries geometries) i j (g + j)) 0) n in
+    let q′ = q ∙ ap (firstOf (λ j. geometryIds (forEntries version buffers [] [] entries geometries) i j (g + j)) 0) n in
     p ∙ rw (q′, b, m′)
 
 -- a slot that is not present is refused for nothing

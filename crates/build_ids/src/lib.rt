@@ -3,34 +3,34 @@ use instance::slot_mention;
 use ray_tracing::BufferId;
 use ray_tracing::BuildAccelerationStructureError;
 use ray_tracing::ENTRY_SIZE;
-use ray_tracing::GEOMETRY_SIZE;
 use ray_tracing::Mentioned;
 use ray_tracing::NO_BUFFER;
 use ray_tracing::PACKAGE_SIZE;
 use ray_tracing::SLOT_SIZE;
 use ray_tracing::Verdict;
+use ray_tracing::Version;
 use ray_tracing::first;
 use records::blas_mention;
 use records::buffer_mention;
 use records::entry_at;
-use records::geometry_at;
 use records::geometry_count;
+use records::geometry_of;
 use records::package_at;
 use records::slot_count;
 use records::tlas_mention;
 ghost use mathlib.Core.Path.{_≡_};
 ghost use mathlib.Core.Bool.{cond};
 ghost use mathlib.Core.List.{[]};
-ghost use Prim.Native.Nat.{_+_, _*_, _/_, _≤_};
+ghost use Prim.Native.Nat.{_+_, _*_, _/_, _≤_, _<_};
 ghost use lib.ListN.{length};
 ghost use lib.Dec.{eqb};
-ghost use Rattle.ray_tracing.specs.Layout.{size};
+ghost use Rattle.ray_tracing.specs.Layout.{size, sizeIn};
 ghost use Rattle.ray_tracing.specs.Mentions.{bufferMention};
 ghost use Rattle.ray_tracing.specs.Code.{mentionOf, verdictOf};
 ghost use Rattle.ray_tracing.specs.Plan.{_or_, atE, firstOf, firstDrawing, geometryCount, slotCount, tablesOf};
 ghost use Rattle.ray_tracing.specs.Plan.{geometryIds, entryIds, slotIds, packageIds, judgeIds};
 ghost use Rattle.ray_tracing.proofs.Inside.{drawnBefore, slotsBefore};
-ghost use Rattle.ray_tracing.specs.Parts.{forPackages, forEntries, entriesIn, packagesIn};
+ghost use Rattle.ray_tracing.specs.Parts.{forPackages, forEntries, ofEntries, entriesIn, packagesIn};
 
 // What a mention finds, at E.
 fn mention_verdict(m: Mentioned, e: usize, f: usize) -> Verdict
@@ -56,6 +56,7 @@ fn optional_mention(buffers: &[u8], id: BufferId) -> Mentioned
 
 // The j-th geometry of entry i, which is geometry g: its data buffer, and for triangles its index and transform buffers.
 fn geometry_ids(
+    version: Version,
     buffers: &[u8],
     entries: &[u8],
     geometries: &[u8],
@@ -63,13 +64,13 @@ fn geometry_ids(
     j: usize,
     g: usize,
 ) -> Verdict
-    requires { ⌜ (i * size 5 + size 5 ≤ length (now entries)) × (g * size 6 + size 6 ≤ length (now geometries)) ⌝ }
+    requires { ⌜ (i * size 5 + size 5 ≤ length (now entries)) × (g < length (now geometries) / sizeIn version 6) ⌝ }
     ensures { λ r. ⌜
-        verdictOf r ≡ geometryIds (forEntries (now (buffers .entry)) [] [] (now (entries .entry)) (now (geometries .entry))) i j g
+        verdictOf r ≡ geometryIds (forEntries version (now (buffers .entry)) [] [] (now (entries .entry)) (now (geometries .entry))) i j g
         ⌝ }
 {
     let entry = entry_at(entries, i * ENTRY_SIZE);
-    let geometry = geometry_at(geometries, g * GEOMETRY_SIZE);
+    let geometry = geometry_of(version, geometries, g);
     let id = geometry.buffer;
     let data = mention_verdict(buffer_mention(buffers, id), i, j);
     if entry.kind != 0 {
@@ -82,6 +83,7 @@ fn geometry_ids(
 
 // The geometries of entry i, from geometry g on.
 fn geometries_ids(
+    version: Version,
     buffers: &[u8],
     entries: &[u8],
     geometries: &[u8],
@@ -89,18 +91,18 @@ fn geometries_ids(
     g: usize,
     count: usize,
 ) -> Verdict
-    requires { ⌜ (i * size 5 + size 5 ≤ length (now entries)) × ((g + count) * size 6 ≤ length (now geometries)) ⌝ }
+    requires { ⌜ (i * size 5 + size 5 ≤ length (now entries)) × (g + count ≤ length (now geometries) / sizeIn version 6) ⌝ }
     ensures { λ r. ⌜
         verdictOf r
         ≡ firstOf
-        (λ j. geometryIds (forEntries (now (buffers .entry)) [] [] (now (entries .entry)) (now (geometries .entry))) i j (g + j))
+        (λ j. geometryIds (forEntries version (now (buffers .entry)) [] [] (now (entries .entry)) (now (geometries .entry))) i j (g + j))
         0
         count
         ⌝ }
 {
     let mut j: usize = 0;
     while j < count {
-        let v = geometry_ids(buffers, entries, geometries, i, j, g + j);
+        let v = geometry_ids(version, buffers, entries, geometries, i, j, g + j);
         if let Verdict::Refused(_, _, _) = v {
             return v;
         }
@@ -111,6 +113,7 @@ fn geometries_ids(
 
 // Entry i, whose geometries stand from geometry g on: they, then its Blas.
 fn entry_ids(
+    version: Version,
     buffers: &[u8],
     blases: &[u8],
     entries: &[u8],
@@ -119,27 +122,33 @@ fn entry_ids(
     g: usize,
     count: usize,
 ) -> Verdict
-    requires { ⌜ (i * size 5 + size 5 ≤ length (now entries)) × ((g + count) * size 6 ≤ length (now geometries)) ⌝ }
-    requires { ⌜ count ≡ geometryCount (forEntries [] [] [] (now entries) []) i ⌝ }
+    requires { ⌜ (i * size 5 + size 5 ≤ length (now entries)) × (g + count ≤ length (now geometries) / sizeIn version 6) ⌝ }
+    requires { ⌜ count ≡ geometryCount (ofEntries [] (now entries)) i ⌝ }
     ensures { λ r. ⌜
         verdictOf r
-        ≡ entryIds (forEntries (now (buffers .entry)) (now (blases .entry)) [] (now (entries .entry)) (now (geometries .entry))) i g
+        ≡ entryIds (forEntries version (now (buffers .entry)) (now (blases .entry)) [] (now (entries .entry)) (now (geometries .entry))) i g
         ⌝ }
 {
-    let geometry = geometries_ids(buffers, entries, geometries, i, g, count);
+    let geometry = geometries_ids(version, buffers, entries, geometries, i, g, count);
     let entry = entry_at(entries, i * ENTRY_SIZE);
     let id = entry.blas;
     let blas = mention_verdict(blas_mention(blases, id), i, 0);
     first(geometry, blas)
 }
 
-fn entries_ids(buffers: &[u8], blases: &[u8], entries: &[u8], geometries: &[u8]) -> Verdict
-    requires { ⌜ drawnBefore (forEntries [] [] [] (now entries) []) (entriesIn (now entries)) ≡ length (now geometries) / size 6 ⌝ }
+fn entries_ids(
+    version: Version,
+    buffers: &[u8],
+    blases: &[u8],
+    entries: &[u8],
+    geometries: &[u8],
+) -> Verdict
+    requires { ⌜ drawnBefore (ofEntries [] (now entries)) (entriesIn (now entries)) ≡ length (now geometries) / sizeIn version 6 ⌝ }
     ensures { λ r. ⌜
         verdictOf r
         ≡ firstDrawing
-        (entryIds (forEntries (now (buffers .entry)) (now (blases .entry)) [] (now (entries .entry)) (now (geometries .entry))))
-        (geometryCount (forEntries [] [] [] (now (entries .entry)) []))
+        (entryIds (forEntries version (now (buffers .entry)) (now (blases .entry)) [] (now (entries .entry)) (now (geometries .entry))))
+        (geometryCount (ofEntries [] (now (entries .entry))))
         0
         0
         (entriesIn (now (entries .entry)))
@@ -150,7 +159,7 @@ fn entries_ids(buffers: &[u8], blases: &[u8], entries: &[u8], geometries: &[u8])
     let mut g: usize = 0;
     while i < n {
         let count = geometry_count(entries, i);
-        let v = entry_ids(buffers, blases, entries, geometries, i, g, count);
+        let v = entry_ids(version, buffers, blases, entries, geometries, i, g, count);
         if let Verdict::Refused(_, _, _) = v {
             return v;
         }
@@ -239,6 +248,7 @@ fn packages_ids(blases: &[u8], tlases: &[u8], packages: &[u8], slots: &[u8]) -> 
 
 // Entries, then packages; what they draw adds up.
 pub fn judge_ids(
+    version: Version,
     buffers: &[u8],
     blases: &[u8],
     tlases: &[u8],
@@ -247,12 +257,13 @@ pub fn judge_ids(
     packages: &[u8],
     slots: &[u8],
 ) -> Verdict
-    requires { ⌜ drawnBefore (forEntries [] [] [] (now entries) []) (entriesIn (now entries)) ≡ length (now geometries) / size 6 ⌝ }
+    requires { ⌜ drawnBefore (ofEntries [] (now entries)) (entriesIn (now entries)) ≡ length (now geometries) / sizeIn version 6 ⌝ }
     requires { ⌜ slotsBefore (forPackages [] [] (now packages) []) (packagesIn (now packages)) ≡ length (now slots) / size 8 ⌝ }
     ensures { λ r. ⌜
         verdictOf r
         ≡ judgeIds
         (tablesOf
+        version
         0
         (now (buffers .entry))
         (now (blases .entry))
@@ -264,7 +275,7 @@ pub fn judge_ids(
         (now (slots .entry)))
         ⌝ }
 {
-    let v = entries_ids(buffers, blases, entries, geometries);
+    let v = entries_ids(version, buffers, blases, entries, geometries);
     if let Verdict::Refused(_, _, _) = v {
         return v;
     }
