@@ -7,8 +7,8 @@
     edge.py picture     SHEET ANSWER NAME           the sheet from above, as SVG
     edge.py make        TEXT OUT NAME               the sheet of a text
 
-ANSWER has what the program printed for the sheet with its words; of `unconverted` those words alone. NAME is what to call the file. Status 0; 1: `make` made a sheet that its
-reader refuses; 2: what is wrong is said in one line on standard error.
+ANSWER has what the program printed for the sheet with its words; of `unconverted` those words alone. NAME is what to call the file. Status 0;
+1: `make` made a sheet that its reader refuses; 2: what is wrong is said in one line on standard error.
 """
 import sys
 

@@ -53,7 +53,8 @@ def early_sheets():
     for n in (1, 12, 14, places[0], places[0] + 7, places[0] + 8, places[1] + 4, last, len(far) - 1):
         yield far[:n]
     yield far + b"\0"
-    yield from (put(far, at, width, value) for at, width, value in ((0, 1, 0), (0, 1, 3), (0, 1, 1), (1, 4, 0), (13, 2, 257), (last, 1, 5), (places[2] + 16, 2, 65535)))
+    for at, width, value in ((0, 1, 0), (0, 1, 3), (0, 1, 1), (1, 4, 0), (13, 2, 257), (last, 1, 5), (places[2] + 16, 2, 65535)):
+        yield put(far, at, width, value)
     for version in VERSIONS:
         yield from (at_limit(k, LIMITS[k - 1] + 1, version)[:300] for k in range(1, 10))
 
@@ -95,8 +96,8 @@ def cases():
         if len(data) < 1000:
             yield data, 0
     narrow, too_long, fits, too_wide, far = full_sheets(rng)
-    for data, room in ((narrow, longest(2)), (narrow, longest(2) - 1), (too_long, ROOM), (fits, longest(1)), (fits, longest(1) - 1), (too_wide, ROOM), (far, 0)):
-        yield data, room
+    yield from ((narrow, longest(2)), (narrow, longest(2) - 1), (too_long, ROOM))
+    yield from ((fits, longest(1)), (fits, longest(1) - 1), (too_wide, ROOM), (far, 0))
 
 
 # ---- what is expected
@@ -120,10 +121,6 @@ def values(data):
     return [*w.head.values()][1:], [[list(r.values.values()) for r in t.records] for t in w.tables]
 
 
-def kinds(data):
-    return {r.values["kind"] for r in Walked(data).tables[4].records}
-
-
 def hold(data):
     """What is written of an accepted sheet, held to it."""
     text = converted(data)
@@ -142,11 +139,13 @@ def main():
     assert set(seen) == {(2, n) for n in (0, 1, 2, 3, 4, 5, 39)} | {(1, n) for n in (0, 1, 2, 3, 4, 5, 39, 47)}, set(seen)
     assert {data[0] for n in (2, 1) for data in seen[n, 1]} == {0, 1, 2, 3, 255}
     for number in (0, 47):
-        assert {kind for data in seen[1, number] for kind in kinds(data)} == {0, 1} and {256} <= {len(Walked(data).tables[5].records) for data in seen[1, number]}
+        tables = [Walked(data).tables for data in seen[1, number]]
+        assert {r.values["kind"] for t in tables for r in t[4].records} == {0, 1} and 256 in {t[5].count for t in tables}
     written = {*seen[2, 0], *seen[1, 0]}
     for data in written:
         hold(data)
-    print(f"{len(some)} sheets; " + "; ".join(f"to {v}: " + ", ".join(f"{len(of)} of {n}" for (to, n), of in sorted(seen.items()) if to == v) for v in (2, 1)))
+    for version in (2, 1):
+        print(f"to version {version}: " + ", ".join(f"{len(of)} of {n}" for (to, n), of in sorted(seen.items()) if to == version))
     print(f"{len(written)} sheets that are written, held to what is written of them")
 
 
