@@ -3,7 +3,7 @@ use mathlib.Core.Path.{_≡_, refl, sym, ap, _∙_}
 use mathlib.Core.Bool.{Bool, true, false, cond}
 use mathlib.Core.List.{List, [], _∷_, _++_}
 use Prim.Native.Nat.{ℕ, suc, _+_, _-_, _*_, _^_, _≤_, _<_}
-use native.Mathlib.Nat.{add-mul}
+use native.Mathlib.Nat.{add-mul, mul-le-mul-left, div-mul-le-self}
 use native.Mathlib.Numerals.{add-one}
 use native.Mathlib.Omega.{arith}
 use lib.Dec.{eqb}
@@ -11,11 +11,14 @@ use lib.ListN.{length, set, length-append}
 use lib.Seq.{sets}
 use borrow.Author.Tests.{eqb-true, eqb-false, eq-eqb, ne-eqb}
 use Rattle.wire.proofs.Laws.{sets-append}
+use Rattle.ray_tracing.specs.declared.Version.{Version}
 use Rattle.ray_tracing.specs.declared.BlasGeometry.{BlasGeometry}
 use Rattle.ray_tracing.specs.declared.BlasBuildEntry.{BlasBuildEntry}
+use Rattle.ray_tracing.specs.Layout.{sizeIn}
 use Rattle.ray_tracing.specs.Records.{entryAt, geometryAt}
 use Rattle.ray_tracing.specs.Checks.{range}
 use Rattle.ray_tracing.specs.Triangles.{indexWidth}
+use Rattle.ray_tracing.proofs.Versions.{geometry-size}
 use Rattle.ray_tracing.proofs.Plan.{left-more, left-none}
 use Rattle.ray_tracing.proofs.Inside.{drawnBefore, drawn-more}
 use Rattle.ray_tracing.specs.Parts.{entriesIn, ofEntries}
@@ -105,40 +108,48 @@ three-written {xs} {ys} {zs} {o₃ = o₃} {end} {last} out at a b c n p e q f r
 
 -- ---- an entry's geometries, and the entries
 
-pub entry-more :
-    {k : BlasGeometry} (geometries : List ℕ) (kind g e : ℕ)
-    → g < e
-    → k ≡ geometryAt geometries (g * 44)
-    → Next (entryRanges geometries kind g (e - g)) (geometryRanges kind k) (entryRanges geometries kind (g + 1) (e - (g + 1)))
-unfolding entryRanges
-entry-more geometries kind g e h f = record { cut = rw (left-more g e h, f) }
+-- a geometry has at least 40 bytes
+pub few : (v : Version) (geometries : List ℕ) → geometriesIn v geometries * 40 ≤ length geometries
+few v geometries =
+    let s = sizeIn v 6 in
+    let n = geometriesIn v geometries in
+    let l : 40 ≤ s = omega (arith, geometry-size v) in
+    omega (arith, mul-le-mul-left n l, div-mul-le-self (length geometries) s)
 
-pub entry-none : (geometries : List ℕ) (kind g e : ℕ) → e ≤ g → entryRanges geometries kind g (e - g) ≡ []
+pub entry-more :
+    {k : BlasGeometry} (v : Version) (geometries : List ℕ) (kind g e : ℕ)
+    → g < e
+    → k ≡ geometryAt v geometries (g * sizeIn v 6)
+    → Next (entryRanges v geometries kind g (e - g)) (geometryRanges kind k) (entryRanges v geometries kind (g + 1) (e - (g + 1)))
 unfolding entryRanges
-entry-none geometries kind g e h = rw (left-none g e h)
+entry-more v geometries kind g e h f = record { cut = rw (left-more g e h, f) }
+
+pub entry-none : (v : Version) (geometries : List ℕ) (kind g e : ℕ) → e ≤ g → entryRanges v geometries kind g (e - g) ≡ []
+unfolding entryRanges
+entry-none v geometries kind g e h = rw (left-none g e h)
 
 pub all-more :
-    {k : BlasBuildEntry} {count : ℕ} (entries geometries : List ℕ) (i g n : ℕ)
+    {k : BlasBuildEntry} {count : ℕ} (v : Version) (entries geometries : List ℕ) (i g n : ℕ)
     → i < n
     → k ≡ entryAt entries (i * 5)
     → count ≡ k .«geometry_count»
-    → Next (allRanges entries geometries i g (n - i)) (entryRanges geometries (k .kind) g count) (allRanges entries geometries (i + 1) (g + count) (n - (i + 1)))
+    → Next (allRanges v entries geometries i g (n - i)) (entryRanges v geometries (k .kind) g count) (allRanges v entries geometries (i + 1) (g + count) (n - (i + 1)))
 unfolding allRanges
-all-more entries geometries i g n h e f = record { cut = rw (left-more i n h, f, e) }
+all-more v entries geometries i g n h e f = record { cut = rw (left-more i n h, f, e) }
 
-pub all-none : (entries geometries : List ℕ) (i g n : ℕ) → n ≤ i → allRanges entries geometries i g (n - i) ≡ []
+pub all-none : (v : Version) (entries geometries : List ℕ) (i g n : ℕ) → n ≤ i → allRanges v entries geometries i g (n - i) ≡ []
 unfolding allRanges
-all-none entries geometries i g n h = rw (left-none i n h)
+all-none v entries geometries i g n h = rw (left-none i n h)
 
 -- what an entry draws is there, and fits
 pub entry-drawn :
-    {k : BlasBuildEntry} {g : ℕ} {entries geometries : List ℕ}
-    → DrawnFit entries geometries
+    {k : BlasBuildEntry} {g : ℕ} {v : Version} {entries geometries : List ℕ}
+    → DrawnFit v entries geometries
     → (i : ℕ)
     → i < entriesIn entries
     → k ≡ entryAt entries (i * 5)
     → g ≡ drawnBefore (ofEntries [] entries) i
-    → (g + k .«geometry_count» ≤ geometriesIn geometries) × AllFit geometries (k .kind) g (k .«geometry_count»)
+    → (g + k .«geometry_count» ≤ geometriesIn v geometries) × AllFit v geometries (k .kind) g (k .«geometry_count»)
 entry-drawn d i h e f = rw (e, f) (d .drawn i h, d .fit i h)
 
 pub entry-next :

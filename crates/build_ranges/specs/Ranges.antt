@@ -5,8 +5,9 @@ use mathlib.Core.Bool.{cond}
 use mathlib.Core.List.{List, [], _++_}
 use lib.ListN.{length}
 use lib.Dec.{eqb}
+use Rattle.ray_tracing.specs.declared.Version.{Version}
 use Rattle.ray_tracing.specs.declared.BlasGeometry.{BlasGeometry}
-use Rattle.ray_tracing.specs.Layout.{layout, size}
+use Rattle.ray_tracing.specs.Layout.{layoutIn, size, sizeIn}
 use Rattle.ray_tracing.specs.Records.{entryAt, geometryAt}
 use Rattle.ray_tracing.specs.Checks.{range}
 use Rattle.ray_tracing.specs.Triangles.{indexWidth}
@@ -41,21 +42,21 @@ abbrev pub geometryRanges : ℕ → BlasGeometry → List ℕ
 geometryRanges kind g = dataRange kind g ++ (indexRange kind g ++ transformRange kind g)
 
 -- of n geometries from geometry g on, of one kind
-unfoldable pub entryRanges : List ℕ → ℕ → ℕ → ℕ → List ℕ
-entryRanges geometries kind g zero = []
-entryRanges geometries kind g (suc n) =
-    geometryRanges kind (geometryAt geometries (g * size 6)) ++ entryRanges geometries kind (g + 1) n
+unfoldable pub entryRanges : Version → List ℕ → ℕ → ℕ → ℕ → List ℕ
+entryRanges v geometries kind g zero = []
+entryRanges v geometries kind g (suc n) =
+    geometryRanges kind (geometryAt v geometries (g * sizeIn v 6)) ++ entryRanges v geometries kind (g + 1) n
 
 -- of n entries from entry i on, whose geometries stand from g on
-unfoldable pub allRanges : List ℕ → List ℕ → ℕ → ℕ → ℕ → List ℕ
-allRanges entries geometries i g zero = []
-allRanges entries geometries i g (suc n) =
-    entryRanges geometries (entryAt entries (i * size 5) .kind) g (entryAt entries (i * size 5) .«geometry_count»)
-    ++ allRanges entries geometries (i + 1) (g + entryAt entries (i * size 5) .«geometry_count») n
+unfoldable pub allRanges : Version → List ℕ → List ℕ → ℕ → ℕ → ℕ → List ℕ
+allRanges v entries geometries i g zero = []
+allRanges v entries geometries i g (suc n) =
+    entryRanges v geometries (entryAt entries (i * size 5) .kind) g (entryAt entries (i * size 5) .«geometry_count»)
+    ++ allRanges v entries geometries (i + 1) (g + entryAt entries (i * size 5) .«geometry_count») n
 
 -- of all entries
-abbrev pub rangesIn : List ℕ → List ℕ → List ℕ
-rangesIn entries geometries = allRanges entries geometries 0 0 (entriesIn entries)
+abbrev pub rangesIn : Version → List ℕ → List ℕ → List ℕ
+rangesIn v entries geometries = allRanges v entries geometries 0 0 (entriesIn entries)
 
 -- the ends of a geometry's ranges are u64s
 pub record RangesFit (kind : ℕ) (g : BlasGeometry) : Type 0 where
@@ -63,24 +64,25 @@ pub record RangesFit (kind : ℕ) (g : BlasGeometry) : Type 0 where
   pub boxes : (kind ≡ 0 → ⊥) → g .first + g .count * g .stride < 2 ^ 64
   pub transform : kind ≡ 0 → (g .«transform_buffer» .0 ≡ 65535 → ⊥) → g .«transform_buffer_offset» + 48 < 2 ^ 64
 
-abbrev pub AllFit : List ℕ → ℕ → ℕ → ℕ → Type 0
-AllFit geometries kind first count =
-    (g : ℕ) → first ≤ g → g < first + count → RangesFit kind (geometryAt geometries (g * size 6))
+abbrev pub AllFit : Version → List ℕ → ℕ → ℕ → ℕ → Type 0
+AllFit v geometries kind first count =
+    (g : ℕ) → first ≤ g → g < first + count → RangesFit kind (geometryAt v geometries (g * sizeIn v 6))
 
 -- the geometries that each entry draws are there, there are not too many, and their ranges fit
-abbrev pub geometriesIn : List ℕ → ℕ
-geometriesIn geometries = length geometries / size 6
+abbrev pub geometriesIn : Version → List ℕ → ℕ
+geometriesIn v geometries = length geometries / sizeIn v 6
 
-pub record DrawnFit (entries geometries : List ℕ) : Type 0 where
+pub record DrawnFit (v : Version) (entries geometries : List ℕ) : Type 0 where
   pub drawn :
       (i : ℕ)
       → i < entriesIn entries
-      → drawnBefore (ofEntries [] entries) i + geometryCount (ofEntries [] entries) i ≤ geometriesIn geometries
-  pub most : geometriesIn geometries ≤ layout 6 .most
+      → drawnBefore (ofEntries [] entries) i + geometryCount (ofEntries [] entries) i ≤ geometriesIn v geometries
+  pub most : geometriesIn v geometries ≤ layoutIn v 6 .most
   pub fit :
       (i : ℕ)
       → i < entriesIn entries
       → AllFit
+      v
       geometries
       (entryAt entries (i * size 5) .kind)
       (drawnBefore (ofEntries [] entries) i)

@@ -3,12 +3,12 @@ use ray_tracing::Asked;
 use ray_tracing::BlasGeometry;
 use ray_tracing::BufferId;
 use ray_tracing::ENTRY_SIZE;
-use ray_tracing::GEOMETRY_SIZE;
 use ray_tracing::NO_BUFFER;
 use ray_tracing::Range;
+use ray_tracing::Version;
 use records::TRANSFORM_SIZE;
 use records::entry_at;
-use records::geometry_at;
+use records::geometry_of;
 use records::index_width;
 ghost use mathlib.Core.Path.{_≡_};
 ghost use mathlib.Core.Bool.{cond};
@@ -31,11 +31,11 @@ fn data_range(kind: u8, g: BlasGeometry) -> Range
     let buffer = g.buffer;
     let region = g.count as u64 * g.stride;
     if kind == 0 {
-        let start = g.first as u64 * g.stride;
+        let start = g.first * g.stride;
         let end = start + region;
         return Range { buffer, start, end };
     }
-    let start = g.first as u64;
+    let start = g.first;
     let end = start + region;
     Range { buffer, start, end }
 }
@@ -111,6 +111,7 @@ fn put_geometry(kind: u8, g: BlasGeometry, out: &mut [u64], at: usize) -> usize
 }
 
 fn write_entry_ranges(
+    version: Version,
     geometries: &[u8],
     kind: u8,
     first: usize,
@@ -118,27 +119,27 @@ fn write_entry_ranges(
     out: &mut [u64],
     at: usize,
 ) -> usize
-    requires { ⌜ (first + count ≤ geometriesIn (now geometries)) × AllFit (now geometries) kind first count ⌝ }
-    requires { ⌜ at + length (entryRanges (now geometries) kind first count) ≤ length (now out) ⌝ }
-    ensures { λ r. ⌜ r ≡ at + length (entryRanges (now (geometries .entry)) kind first count) ⌝ }
+    requires { ⌜ (first + count ≤ geometriesIn version (now geometries)) × AllFit version (now geometries) kind first count ⌝ }
+    requires { ⌜ at + length (entryRanges version (now geometries) kind first count) ≤ length (now out) ⌝ }
+    ensures { λ r. ⌜ r ≡ at + length (entryRanges version (now (geometries .entry)) kind first count) ⌝ }
     ensures { λ _. ⌜
-        now (out .exit) ≡ sets (now (out .entry)) at (entryRanges (now (geometries .entry)) kind first count)
+        now (out .exit) ≡ sets (now (out .entry)) at (entryRanges version (now (geometries .entry)) kind first count)
         ⌝ }
 {
     let mut end = at;
     let mut g = first;
     while g < first + count {
-        let geometry = geometry_at(geometries, g * GEOMETRY_SIZE);
+        let geometry = geometry_of(version, geometries, g);
         end = put_geometry(kind, geometry, out, end);
         g += 1;
     }
     end
 }
 
-pub fn write_init_ranges(entries: &[u8], geometries: &[u8], out: &mut [u64])
-    requires { ⌜ DrawnFit (now entries) (now geometries) ⌝ }
-    requires { ⌜ length (rangesIn (now entries) (now geometries)) ≤ length (now out) ⌝ }
-    ensures { λ _. ⌜ now (out .exit) ≡ sets (now (out .entry)) 0 (rangesIn (now (entries .entry)) (now (geometries .entry))) ⌝ }
+pub fn write_init_ranges(version: Version, entries: &[u8], geometries: &[u8], out: &mut [u64])
+    requires { ⌜ DrawnFit version (now entries) (now geometries) ⌝ }
+    requires { ⌜ length (rangesIn version (now entries) (now geometries)) ≤ length (now out) ⌝ }
+    ensures { λ _. ⌜ now (out .exit) ≡ sets (now (out .entry)) 0 (rangesIn version (now (entries .entry)) (now (geometries .entry))) ⌝ }
 {
     let mut at: usize = 0;
     let mut g: usize = 0;
@@ -146,7 +147,7 @@ pub fn write_init_ranges(entries: &[u8], geometries: &[u8], out: &mut [u64])
     while i < entries.len() / ENTRY_SIZE {
         let entry = entry_at(entries, i * ENTRY_SIZE);
         let count = entry.geometry_count as usize;
-        at = write_entry_ranges(geometries, entry.kind, g, count, out, at);
+        at = write_entry_ranges(version, geometries, entry.kind, g, count, out, at);
         g += count;
         i += 1;
     }
@@ -172,23 +173,29 @@ fn geometry_cells(kind: u8, g: BlasGeometry) -> usize
     RANGE_CELLS + buffer_cells(g.index_buffer) + buffer_cells(g.transform_buffer)
 }
 
-fn count_entry_ranges(geometries: &[u8], kind: u8, first: usize, count: usize) -> usize
-    requires { ⌜ first + count ≤ geometriesIn (now geometries) ⌝ }
-    ensures { λ r. ⌜ (r ≡ length (entryRanges (now (geometries .entry)) kind first count)) × (r ≤ 9 * count) ⌝ }
+fn count_entry_ranges(
+    version: Version,
+    geometries: &[u8],
+    kind: u8,
+    first: usize,
+    count: usize,
+) -> usize
+    requires { ⌜ first + count ≤ geometriesIn version (now geometries) ⌝ }
+    ensures { λ r. ⌜ (r ≡ length (entryRanges version (now (geometries .entry)) kind first count)) × (r ≤ 9 * count) ⌝ }
 {
     let mut n: usize = 0;
     let mut g = first;
     while g < first + count {
-        let geometry = geometry_at(geometries, g * GEOMETRY_SIZE);
+        let geometry = geometry_of(version, geometries, g);
         n = n + geometry_cells(kind, geometry);
         g += 1;
     }
     n
 }
 
-pub fn count_ranges(entries: &[u8], geometries: &[u8]) -> usize
-    requires { ⌜ DrawnFit (now entries) (now geometries) ⌝ }
-    ensures { λ r. ⌜ r ≡ length (rangesIn (now (entries .entry)) (now (geometries .entry))) ⌝ }
+pub fn count_ranges(version: Version, entries: &[u8], geometries: &[u8]) -> usize
+    requires { ⌜ DrawnFit version (now entries) (now geometries) ⌝ }
+    ensures { λ r. ⌜ r ≡ length (rangesIn version (now (entries .entry)) (now (geometries .entry))) ⌝ }
 {
     let mut n: usize = 0;
     let mut g: usize = 0;
@@ -196,7 +203,7 @@ pub fn count_ranges(entries: &[u8], geometries: &[u8]) -> usize
     while i < entries.len() / ENTRY_SIZE {
         let entry = entry_at(entries, i * ENTRY_SIZE);
         let count = entry.geometry_count as usize;
-        n = n + count_entry_ranges(geometries, entry.kind, g, count);
+        n = n + count_entry_ranges(version, geometries, entry.kind, g, count);
         g += count;
         i += 1;
     }

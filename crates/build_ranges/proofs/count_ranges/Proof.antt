@@ -15,13 +15,13 @@ use Rattle.build_ranges.proofs.count_ranges.Statement.{statement}
 use Rattle.build_ranges.proofs.count_ranges.Tie as tie
 
 abbrev Inv-loop : tie.InvT-loop
-Inv-loop entries geometries n₀ g₀ i₀ n g i =
+Inv-loop version entries geometries n₀ g₀ i₀ n g i =
     (g ≡ drawnBefore (ofEntries [] entries) i)
     × (n ≤ 9 * g)
-    × (n + length (allRanges entries geometries i g (entriesIn entries - i)) ≡ length (allRanges entries geometries 0 0 (entriesIn entries)))
+    × (n + length (allRanges version entries geometries i g (entriesIn entries - i)) ≡ length (allRanges version entries geometries 0 0 (entriesIn entries)))
 
 abbrev μ-loop : tie.MeasureT-loop
-μ-loop entries geometries n₀ g₀ i₀ n g i = entriesIn entries - i
+μ-loop version entries geometries n₀ g₀ i₀ n g i = entriesIn entries - i
 
 loop-holds : tie.Need-loop-holds Inv-loop μ-loop
 loop-holds c = (sym (drawn-none (ofEntries [] (c .before .before .args .entries .now))), search needs, rw sub-zero (zero-add _))
@@ -36,10 +36,10 @@ add-g : tie.Need-add-g Inv-loop μ-loop
 add-g c = omega (arith, c .before .before .before .before .before .before .before .pre .most, c .count-entry-ranges .ensures .1, entry-drawn (c .before .before .before .before .before .before .before .pre) _ (c .before .before .before .loop-test .taken) (c .before .before .entry-at .ensures) (c .before .before .before .before .loop .inv .0) .0)
 
 loop-again : tie.Need-loop-again Inv-loop μ-loop
-loop-again c = (entry-next _ _ (c .before .before .entry-at .ensures) (c .before .before .before .before .loop .inv .0), omega (arith, c .count-entry-ranges .ensures .1), counted (c .before .before .before .before .loop .n) (all-more _ (c .before .before .before .before .before .before .before .args .geometries .now) _ _ _ (c .before .before .before .loop-test .taken) (c .before .before .entry-at .ensures) refl) (c .before .before .before .before .loop .inv .2) (ap (λ (k : ℕ). c .before .before .before .before .loop .n + k) (c .count-entry-ranges .ensures .0)))
+loop-again c = (entry-next _ _ (c .before .before .entry-at .ensures) (c .before .before .before .before .loop .inv .0), omega (arith, c .count-entry-ranges .ensures .1), counted (c .before .before .before .before .loop .n) (all-more _ _ (c .before .before .before .before .before .before .before .args .geometries .now) _ _ _ (c .before .before .before .loop-test .taken) (c .before .before .entry-at .ensures) refl) (c .before .before .before .before .loop .inv .2) (ap (λ (k : ℕ). c .before .before .before .before .loop .n + k) (c .count-entry-ranges .ensures .0)))
 
 returns : tie.Need-returns Inv-loop μ-loop
-returns c = omega (arith, c .before .loop .inv .2, ap length (all-none (c .before .before .before .before .args .entries .now) (c .before .before .before .before .args .geometries .now) (c .before .loop .i) (c .before .loop .g) _ (c .loop-test .left)))
+returns c = omega (arith, c .before .loop .inv .2, ap length (all-none (c .before .before .before .before .args .version) (c .before .before .before .before .args .entries .now) (c .before .before .before .before .args .geometries .now) (c .before .loop .i) (c .before .loop .g) _ (c .loop-test .left)))
 
 pub count-ranges-spec : {M : Type 1} → statement M
 count-ranges-spec =
