@@ -17,7 +17,7 @@ use Rattle.build_entries.specs.Within.{GeometryInside, EntriesInside}
 
 -- the tables that judging entries reads
 abbrev pub entriesPart : Tables → Tables
-entriesPart x = forEntries (x .buffers) (x .blases) (x .declared) (x .entries) (x .geometries)
+entriesPart x = forEntries (x .version) (x .buffers) (x .blases) (x .declared) (x .entries) (x .geometries)
 
 module _ (x : Tables) (h : Inside x) where
   pub geometry-inside :

@@ -10,16 +10,16 @@ use ray_tracing::CheckedGeometry;
 use ray_tracing::DECLARED_SIZE;
 use ray_tracing::Declared;
 use ray_tracing::ENTRY_SIZE;
-use ray_tracing::GEOMETRY_SIZE;
 use ray_tracing::GivenBuffer;
 use ray_tracing::NO_BUFFER;
 use ray_tracing::Verdict;
+use ray_tracing::Version;
 use records::blas_of_entry;
 use records::buffer_at;
 use records::declared_at;
 use records::entry_at;
-use records::geometry_at;
 use records::geometry_count;
+use records::geometry_of;
 use wire::u16_at;
 ghost use mathlib.Core.Path.{_≡_};
 ghost use mathlib.Core.List.{[]};
@@ -32,7 +32,7 @@ ghost use Rattle.ray_tracing.specs.Triangles.{unlessNone};
 ghost use Rattle.ray_tracing.specs.Plan.{firstOf, firstDrawing, entryOf, geometryCount, checkedAt, checkedE};
 ghost use Rattle.ray_tracing.specs.Plan.{judgeEntry, judgeEntries};
 ghost use Rattle.ray_tracing.proofs.Inside.{Named};
-ghost use Rattle.ray_tracing.specs.Parts.{forEntries, entriesIn};
+ghost use Rattle.ray_tracing.specs.Parts.{forEntries, ofEntries, entriesIn};
 ghost use Rattle.build_entries.specs.Index.{Indexable, Heads, Nexts, declaredIn, nthOf, following, standing};
 ghost use Rattle.build_entries.specs.Kinds.{byKind};
 ghost use Rattle.build_entries.specs.Within.{GeometryInside, EntriesInside};
@@ -141,6 +141,7 @@ fn check_geometry(
 
 // The j-th geometry of entry i, which is geometry g, and for which its Blas declares what stands at a place of section 3.
 fn check_geometry_at(
+    version: Version,
     buffers: &[u8],
     blases: &[u8],
     declared: &[u8],
@@ -151,12 +152,12 @@ fn check_geometry_at(
     g: usize,
     at: usize,
 ) -> CheckedGeometry
-    requires { ⌜ GeometryInside (forEntries (now buffers) (now blases) (now declared) (now entries) (now geometries)) i g ⌝ }
-    requires { ⌜ at ≡ nthOf (now declared) (entryOf (forEntries [] [] [] (now entries) []) i .blas .0) j ⌝ }
+    requires { ⌜ GeometryInside (forEntries version (now buffers) (now blases) (now declared) (now entries) (now geometries)) i g ⌝ }
+    requires { ⌜ at ≡ nthOf (now declared) (entryOf (ofEntries [] (now entries)) i .blas .0) j ⌝ }
     ensures { λ r. ⌜
         checkedOf r
         ≡ checkedAt
-        (forEntries (now (buffers .entry)) (now (blases .entry)) (now (declared .entry)) (now (entries .entry))
+        (forEntries version (now (buffers .entry)) (now (blases .entry)) (now (declared .entry)) (now (entries .entry))
         (now (geometries .entry)))
         i
         j
@@ -165,7 +166,7 @@ fn check_geometry_at(
 {
     let entry = entry_at(entries, i * ENTRY_SIZE);
     let blas = blas_of_entry(blases, entries, i);
-    let geometry = geometry_at(geometries, g * GEOMETRY_SIZE);
+    let geometry = geometry_of(version, geometries, g);
     let descriptor = declared_standing(declared, at);
     check_geometry(buffers, entry.kind, blas, descriptor, geometry)
 }
@@ -182,6 +183,7 @@ fn checked_verdict(c: CheckedGeometry, i: usize, j: usize) -> Verdict
 
 // The geometries of entry i, from geometry g on; its Blas declares the first at a place.
 fn judge_geometries(
+    version: Version,
     buffers: &[u8],
     blases: &[u8],
     declared: &[u8],
@@ -196,9 +198,9 @@ fn judge_geometries(
     requires { ⌜
         ((j : ℕ)
         → j < count
-        → GeometryInside (forEntries (now buffers) (now blases) (now declared) (now entries) (now geometries)) i (g + j))
+        → GeometryInside (forEntries version (now buffers) (now blases) (now declared) (now entries) (now geometries)) i (g + j))
         ⌝ }
-    requires { ⌜ place ≡ nthOf (now declared) (entryOf (forEntries [] [] [] (now entries) []) i .blas .0) 0 ⌝ }
+    requires { ⌜ place ≡ nthOf (now declared) (entryOf (ofEntries [] (now entries)) i .blas .0) 0 ⌝ }
     requires { ⌜ Nexts (now declared) (now next) × (declaredIn (now declared) ≤ layout 3 .most) ⌝ }
     ensures { λ r. ⌜
         verdictOf r
@@ -208,7 +210,7 @@ fn judge_geometries(
         i
         j
         (checkedAt
-        (forEntries (now (buffers .entry)) (now (blases .entry)) (now (declared .entry)) (now (entries .entry))
+        (forEntries version (now (buffers .entry)) (now (blases .entry)) (now (declared .entry)) (now (entries .entry))
         (now (geometries .entry)))
         i
         j
@@ -221,6 +223,7 @@ fn judge_geometries(
     let mut j: usize = 0;
     while j < count {
         let checked = check_geometry_at(
+            version,
             buffers,
             blases,
             declared,
@@ -243,6 +246,7 @@ fn judge_geometries(
 
 // Entry i, whose geometries stand from geometry g on.
 fn judge_entry(
+    version: Version,
     buffers: &[u8],
     blases: &[u8],
     declared: &[u8],
@@ -257,18 +261,18 @@ fn judge_entry(
     requires { ⌜
         ((j : ℕ)
         → j < count
-        → GeometryInside (forEntries (now buffers) (now blases) (now declared) (now entries) (now geometries)) i (g + j))
+        → GeometryInside (forEntries version (now buffers) (now blases) (now declared) (now entries) (now geometries)) i (g + j))
         ⌝ }
     requires { ⌜ i * size 5 + size 5 ≤ length (now entries) ⌝ }
-    requires { ⌜ entryOf (forEntries [] [] [] (now entries) []) i .blas .0 < layout 2 .most ⌝ }
-    requires { ⌜ count ≡ geometryCount (forEntries [] [] [] (now entries) []) i ⌝ }
+    requires { ⌜ entryOf (ofEntries [] (now entries)) i .blas .0 < layout 2 .most ⌝ }
+    requires { ⌜ count ≡ geometryCount (ofEntries [] (now entries)) i ⌝ }
     requires { ⌜
         Heads (now declared) (now head) × Nexts (now declared) (now next) × (declaredIn (now declared) ≤ layout 3 .most)
         ⌝ }
     ensures { λ r. ⌜
         verdictOf r
         ≡ judgeEntry
-        (forEntries (now (buffers .entry)) (now (blases .entry)) (now (declared .entry)) (now (entries .entry))
+        (forEntries version (now (buffers .entry)) (now (blases .entry)) (now (declared .entry)) (now (entries .entry))
         (now (geometries .entry)))
         i
         g
@@ -277,6 +281,7 @@ fn judge_entry(
     let entry = entry_at(entries, i * ENTRY_SIZE);
     let place = first_declared(declared, head, entry.blas);
     judge_geometries(
+        version,
         buffers,
         blases,
         declared,
@@ -291,6 +296,7 @@ fn judge_entry(
 }
 
 fn judge_each(
+    version: Version,
     buffers: &[u8],
     blases: &[u8],
     declared: &[u8],
@@ -299,7 +305,7 @@ fn judge_each(
     head: &[u16; MOST_BLASES],
     next: &[u16; MOST_DECLARED],
 ) -> Verdict
-    requires { ⌜ EntriesInside (forEntries (now buffers) (now blases) (now declared) (now entries) (now geometries)) ⌝ }
+    requires { ⌜ EntriesInside (forEntries version (now buffers) (now blases) (now declared) (now entries) (now geometries)) ⌝ }
     requires { ⌜
         Heads (now declared) (now head) × Nexts (now declared) (now next) × (declaredIn (now declared) ≤ layout 3 .most)
         ⌝ }
@@ -307,9 +313,9 @@ fn judge_each(
         verdictOf r
         ≡ firstDrawing
         (judgeEntry
-        (forEntries (now (buffers .entry)) (now (blases .entry)) (now (declared .entry)) (now (entries .entry))
+        (forEntries version (now (buffers .entry)) (now (blases .entry)) (now (declared .entry)) (now (entries .entry))
         (now (geometries .entry))))
-        (geometryCount (forEntries [] [] [] (now (entries .entry)) []))
+        (geometryCount (ofEntries [] (now (entries .entry))))
         0
         0
         (entriesIn (now (entries .entry)))
@@ -321,6 +327,7 @@ fn judge_each(
     while i < n {
         let count = geometry_count(entries, i);
         let v = judge_entry(
+            version,
             buffers,
             blases,
             declared,
@@ -343,6 +350,7 @@ fn judge_each(
 
 // Entries in turn, with section 3 indexed once.
 pub fn judge_entries(
+    version: Version,
     buffers: &[u8],
     blases: &[u8],
     declared: &[u8],
@@ -350,18 +358,27 @@ pub fn judge_entries(
     geometries: &[u8],
 ) -> Verdict
     requires { ⌜
-        EntriesInside (forEntries (now buffers) (now blases) (now declared) (now entries) (now geometries))
+        EntriesInside (forEntries version (now buffers) (now blases) (now declared) (now entries) (now geometries))
         × Indexable (now declared)
         ⌝ }
     ensures { λ r. ⌜
         verdictOf r
         ≡ judgeEntries
-        (forEntries (now (buffers .entry)) (now (blases .entry)) (now (declared .entry)) (now (entries .entry))
+        (forEntries version (now (buffers .entry)) (now (blases .entry)) (now (declared .entry)) (now (entries .entry))
         (now (geometries .entry)))
         ⌝ }
 {
     let index = index_declared(declared);
     let head = index.head;
     let next = index.next;
-    judge_each(buffers, blases, declared, entries, geometries, &head, &next)
+    judge_each(
+        version,
+        buffers,
+        blases,
+        declared,
+        entries,
+        geometries,
+        &head,
+        &next,
+    )
 }

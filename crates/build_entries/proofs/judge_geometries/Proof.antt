@@ -1,12 +1,15 @@
 -- `build_entries::judge_geometries` meets its contract: what is left from the j-th geometry on is the whole, and the j-th declared geometry of the Blas is at hand.
+use native.Mathlib.Nat.{div-le-self}
 use native.Mathlib.Omega.{arith}
+use lib.ListN.{length}
 use mathlib.Core.Path.{_≡_, sym, ap, _∙_}
 use mathlib.Core.List.{[]}
 use Prim.Native.Nat.{_+_, _-_, _≤_}
+use Rattle.ray_tracing.specs.Layout.{sizeIn}
 use Rattle.ray_tracing.specs.Plan.{firstOf, entryOf, checkedAt, checkedE}
 use Rattle.ray_tracing.specs.Code.{verdictOf}
 use Rattle.ray_tracing.proofs.Verdicts.{from-start, ended, found, onward}
-use Rattle.ray_tracing.specs.Parts.{forEntries}
+use Rattle.ray_tracing.specs.Parts.{forEntries, ofEntries}
 use Rattle.build_entries.specs.Index.{nthOf}
 use Rattle.build_entries.proofs.Index.{follow}
 use borrow.Author.Needs.{needs}
@@ -14,16 +17,16 @@ use Rattle.build_entries.proofs.judge_geometries.Statement.{statement}
 use Rattle.build_entries.proofs.judge_geometries.Tie as tie
 
 abbrev Inv-loop : tie.InvT-loop
-Inv-loop buffers blases declared entries geometries next i g place count at₀ j₀ at j = (j ≤ count) × (at ≡ nthOf declared (entryOf (forEntries [] [] [] entries []) i .blas .0) j) × (firstOf (λ j. checkedE i j (checkedAt (forEntries buffers blases declared entries geometries) i j (g + j))) j (count - j) ≡ firstOf (λ j. checkedE i j (checkedAt (forEntries buffers blases declared entries geometries) i j (g + j))) 0 count)
+Inv-loop version buffers blases declared entries geometries next i g place count at₀ j₀ at j = (j ≤ count) × (at ≡ nthOf declared (entryOf (ofEntries [] entries) i .blas .0) j) × (firstOf (λ j. checkedE i j (checkedAt (forEntries version buffers blases declared entries geometries) i j (g + j))) j (count - j) ≡ firstOf (λ j. checkedE i j (checkedAt (forEntries version buffers blases declared entries geometries) i j (g + j))) 0 count)
 
 abbrev μ-loop : tie.MeasureT-loop
-μ-loop buffers blases declared entries geometries next i g place count at₀ j₀ at j = count - j
+μ-loop version buffers blases declared entries geometries next i g place count at₀ j₀ at j = count - j
 
 loop-holds : tie.Need-loop-holds Inv-loop μ-loop
 loop-holds c = (search needs, c .before .before .before .before .before .pre .1 .0, from-start _ _)
 
 add-check-geometry-at : tie.Need-add-check-geometry-at Inv-loop μ-loop
-add-check-geometry-at c = omega (arith, c .before .before .before .before .before .before .before .pre .0 (c .before .loop .j) (c .loop-test .taken) .geometry)
+add-check-geometry-at c = let a = c .before .before .before .before .before .before .before .args in omega (arith, div-le-self (length (a .geometries .now)) (sizeIn (a .version) 6), c .before .before .before .before .before .before .before .pre .0 (c .before .loop .j) (c .loop-test .taken) .geometry)
 
 check-geometry-at-requires : tie.Need-check-geometry-at-requires Inv-loop μ-loop
 check-geometry-at-requires c κs = (c .before .before .before .before .before .before .before .pre .0 (c .before .loop .j) (c .loop-test .taken), c .before .loop .inv .1)
