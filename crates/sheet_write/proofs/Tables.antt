@@ -2,7 +2,7 @@
 use Prim.Native.Nat.{ℕ, zero, suc, _+_, _-_, _*_, _/_, _≤_, _<_}
 use native.Mathlib.Nat.{zero-mul, suc-mul, div-add-mod'}
 use native.Mathlib.Omega.{arith}
-use mathlib.Core.Bool.{true, false, false≢true}
+use mathlib.Core.Bool.{Bool, true, false, cond, false≢true}
 use mathlib.Core.Path.{_≡_, refl, sym, ap, _∙_, subst}
 use mathlib.Core.List.{List, [], _∷_, _++_, append-assoc, map, flatten}
 use lib.Dec.{eqb, ltb}
@@ -11,10 +11,11 @@ use lib.Seq.{sets, sets-eq, length-sets, length-take-le, take-at, drop-at}
 use borrow.Author.Tests.{lt-ltb}
 use Rattle.wire.specs.Wire.{leAt}
 use Rattle.wire.proofs.Laws.{le-take, le-drop}
-use Rattle.ray_tracing.specs.Layout.{Seen, layout, size}
+use Rattle.ray_tracing.specs.declared.Version.{Version}
+use Rattle.ray_tracing.specs.Layout.{Seen, layout, layoutIn, size, sizeIn}
 use Rattle.ray_tracing.specs.Reading.{fine, judgeLent, sumOfCounts, begin}
-use Rattle.ray_tracing.specs.Meaning.{Held, recordsFrom, drawnFrom, byBlas}
-use Rattle.ray_tracing.specs.Canonical.{heldCanonical, canonicalTable}
+use Rattle.ray_tracing.specs.Meaning.{Held, recordsFrom, drawnFrom, recordsOf, byBlas, declaredLists}
+use Rattle.ray_tracing.specs.Canonical.{heldCanonical, inOrder, canonicalTable}
 use Rattle.ray_tracing.proofs.Each.{each}
 use Rattle.ray_tracing.proofs.Sheets.{lent-tells}
 use Rattle.ray_tracing.proofs.Held.{All, all-by, Fine, records-seen, records-count, records-sized, records-first, drawn-first, flat-length, cut-at}
@@ -58,7 +59,7 @@ blas-at c w m (suc n) u h a (suc i) l =
 
 -- ---- declared geometries
 
-module _ (t s : List ℕ) (f : judgeLent 3 (layout 3) (size 2) t s ≡ fine) where
+module _ (v : Version) (t s : List ℕ) (f : judgeLent 3 (layout 3) (size 2) t s ≡ fine) where
   abbrev n : ℕ
   n = length s / size 3
 
@@ -84,7 +85,7 @@ module _ (t s : List ℕ) (f : judgeLent 3 (layout 3) (size 2) t s ≡ fine) whe
   seen = records-seen (layout 3 .fields) c n s
 
   inside : All (λ x. blasOf x < m) xs
-  inside = all-and (Fine (layout 3 .fields)) (λ x. x .seen ≡ c) (λ x. blasOf x < m) (inside-blases t) xs (made-declared t s f .held) seen
+  inside = all-and (Fine (layout 3 .fields)) (λ x. x .seen ≡ c) (λ x. blasOf x < m) (inside-blases t) xs (made-declared v t s f .held) seen
 
   pub blases-inside : (i : ℕ) → i < n → leAt 2 s (i * size 3) < m
   blases-inside = blas-at c (size 3) m n s (omega arith) inside
@@ -124,31 +125,31 @@ module _ (t s : List ℕ) (f : judgeLent 3 (layout 3) (size 2) t s ≡ fine) whe
 
     pub declared-written :
         (out₂ : List ℕ)
-        → out₂ ≡ sets out₁ at (flatten (map (heldCanonical 3) (recordsFrom c (size 3) (drop at out₁) n)))
-        → out₂ ≡ sets out at (canonicalTable 3 t s)
+        → out₂ ≡ sets out₁ at (flatten (map (heldCanonical v 3) (recordsFrom c (size 3) (drop at out₁) n)))
+        → out₂ ≡ sets out at (canonicalTable v 3 t s)
     unfolding canonicalTable
     declared-written out₂ g =
         g
         ∙ rw placed-records
-        (ap (λ (o : List ℕ). sets o at (flatten (map (heldCanonical 3) ordered))) e
-        ∙ over out at placed room (flatten (map (heldCanonical 3) ordered)) (made-declared t s f .length′ ∙ sym placed-length))
+        (ap (λ (o : List ℕ). sets o at (flatten (map (heldCanonical v 3) ordered))) e
+        ∙ over out at placed room (flatten (map (heldCanonical v 3) ordered)) (made-declared v t s f .length′ ∙ sym placed-length))
 
 -- ---- geometries
 
-module _ (t s : List ℕ) (f : judgeLent 6 (layout 6) (size 5) t s ≡ fine) (out out₁ : List ℕ) (at : ℕ) (h : at + length s ≤ length out) (e : out₁ ≡ sets out at s)
+module _ (v : Version) (t s : List ℕ) (f : judgeLent 6 (layoutIn v 6) (size 5) t s ≡ fine) (out out₁ : List ℕ) (at : ℕ) (h : at + length s ≤ length out) (e : out₁ ≡ sets out at s)
   where
-    pub drawn-room : at + sumOfCounts t (size 5) 3 (length t / size 5) * size 6 ≤ length out₁
-    drawn-room = rw (e, length-sets, all-drawn t s f) h
+    pub drawn-room : at + sumOfCounts t (size 5) 3 (length t / size 5) * sizeIn v 6 ≤ length out₁
+    drawn-room = rw (e, length-sets, all-drawn v t s f) h
 
     pub geometries-written :
         (out₂ : List ℕ)
-        → out₂ ≡ sets out₁ at (flatten (map (heldCanonical 6) (drawnFrom t 0 (drop at out₁) (length t / size 5))))
-        → out₂ ≡ sets out at (canonicalTable 6 t s)
+        → out₂ ≡ sets out₁ at (flatten (map (heldCanonical v 6) (drawnFrom v t 0 (drop at out₁) (length t / size 5))))
+        → out₂ ≡ sets out at (canonicalTable v 6 t s)
     unfolding canonicalTable
     geometries-written out₂ g =
         g
-        ∙ rw (e, part out at s h, drawn-first t (length t / size 5) 0 s (drop (at + length s) out) (omega (arith, all-drawn t s f)))
-        (over out at s h (flatten (map (heldCanonical 6) (drawnFrom t 0 s (length t / size 5)))) (made-drawn t s f .length′))
+        ∙ rw (e, part out at s h, drawn-first v t (length t / size 5) 0 s (drop (at + length s) out) (omega (arith, all-drawn v t s f)))
+        (over out at s h (flatten (map (heldCanonical v 6) (drawnFrom v t 0 s (length t / size 5)))) (made-drawn v t s f .length′))
 
 -- ---- slots, actions
 
@@ -163,29 +164,35 @@ late k h l =
     never e = absurd (false≢true e)
 
 module _
+    (v : Version)
     (k : ℕ)
     (b : k < 10)
     (six : eqb k 6 ≡ false)
     (three : eqb k 3 ≡ false)
     (t s : List ℕ)
-    (f : judgeLent k (layout k) (size (k - 1)) t s ≡ fine)
+    (f : judgeLent k (layoutIn v k) (sizeIn v (k - 1)) t s ≡ fine)
   where
-    records-room : length s / size k * size k ≡ length s
-    records-room = omega (arith, lent-tells k (layout k) (size (k - 1)) t s f .whole, div-add-mod' (length s) (size k))
+    records-room : length s / sizeIn v k * sizeIn v k ≡ length s
+    records-room = omega (arith, lent-tells k (layoutIn v k) (sizeIn v (k - 1)) t s f .whole, div-add-mod' (length s) (sizeIn v k))
 
     module _ (out out₁ : List ℕ) (at : ℕ) (h : at + length s ≤ length out) (e : out₁ ≡ sets out at s) where
-      pub room-there : at + length s / size k * size k ≤ length out₁
+      pub room-there : at + length s / sizeIn v k * sizeIn v k ≤ length out₁
       room-there = rw (e, length-sets, records-room) h
 
       pub records-written :
           (out₂ : List ℕ)
-          → out₂ ≡ sets out₁ at (flatten (map (heldCanonical k) (recordsFrom (begin (size (k - 1)) t false) (size k) (drop at out₁) (length s / size k))))
-          → out₂ ≡ sets out at (canonicalTable k t s)
+          → out₂ ≡ sets out₁ at (flatten (map (heldCanonical v k) (recordsFrom (begin (sizeIn v (k - 1)) t false) (sizeIn v k) (drop at out₁) (length s / sizeIn v k))))
+          → out₂ ≡ sets out at (canonicalTable v k t s)
       unfolding canonicalTable
       records-written out₂ g =
-          let c = begin (size (k - 1)) t false in
-          let l : length (flatten (map (heldCanonical k) (recordsFrom c (size k) s (length s / size k)))) ≡ length s =
-          rw (three, six) at (made-as-read k b six t s f three .length′) in
+          let c = begin (sizeIn v (k - 1)) t false in
+          let n = length s / sizeIn v k in
+          let plain : inOrder v k t s ≡ recordsFrom c (sizeIn v k) s n =
+          ap (λ (i : Bool). cond i (flatten (declaredLists t s)) (recordsOf v k t s)) three
+          ∙ ap (λ (i : Bool). cond i (drawnFrom v t 0 s (length t / size 5)) (recordsFrom c (sizeIn v k) s n)) six in
+          let l : length (flatten (map (heldCanonical v k) (recordsFrom c (sizeIn v k) s n))) ≡ length s =
+          subst (λ (xs : List Held). length (flatten (map (heldCanonical v k) xs)) ≡ length s) plain (made-as-read v k b six t s f three .length′) in
           g
-          ∙ rw (e, part out at s h, records-first c (size k) (length s / size k) s (drop (at + length s) out) (omega (arith, records-room)), three, six)
-          (over out at s h (flatten (map (heldCanonical k) (recordsFrom c (size k) s (length s / size k)))) l)
+          ∙ rw (e, part out at s h, records-first c (sizeIn v k) n s (drop (at + length s) out) (omega (arith, records-room)))
+          (over out at s h (flatten (map (heldCanonical v k) (recordsFrom c (sizeIn v k) s n))) l)
+          ∙ ap (λ (xs : List Held). sets out at (flatten (map (heldCanonical v k) xs))) (sym plain)

@@ -9,7 +9,7 @@ use Rattle.sheet_write.proofs.write_declared.Tie as tie
 put-by-blas-requires : tie.Need-put-by-blas-requires
 put-by-blas-requires c κs =
     let start = c .before .before .before .before in
-    ((start .pre .0 .0, start .pre .0 .1), blases-inside _ _ (start .pre .1))
+    ((start .pre .0 .0, start .pre .0 .1), blases-inside (start .args .version) _ _ (start .pre .1))
 
 clear-records-requires : tie.Need-clear-records-requires
 clear-records-requires c κs =
@@ -17,7 +17,7 @@ clear-records-requires c κs =
     let e = c .before .before .before .put-by-blas .ensures _ in
     let f = start .pre .1 in
     let h = start .pre .0 .0 in
-    ((omega arith, refl), (placed-room _ _ f _ _ _ h e, λ _. placed-inside _ _ f _ _ _ h e))
+    ((omega arith, refl), (placed-room (start .args .version) _ _ f _ _ _ h e, λ _. placed-inside (start .args .version) _ _ f _ _ _ h e))
 
 same-length : tie.Need-same-length
 same-length c = search needs
@@ -25,7 +25,7 @@ same-length c = search needs
 returns : tie.Need-returns
 returns c =
     let start = c .before .before .before .before .before .before .before .before .before .before .before in
-    declared-written _ _ (start .pre .1) _ _ _ (start .pre .0 .0) (c .before .before .before .before .before .before .put-by-blas .ensures _) _ (c .before .before .clear-records .ensures)
+    declared-written (start .args .version) _ _ (start .pre .1) _ _ _ (start .pre .0 .0) (c .before .before .before .before .before .before .put-by-blas .ensures _) _ (c .before .before .clear-records .ensures)
 
 pub write-declared-spec : {M : Type 1} → statement M
 write-declared-spec =

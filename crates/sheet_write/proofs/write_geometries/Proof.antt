@@ -10,7 +10,7 @@ put-bytes-requires c κs = search needs
 clear-drawn-requires : tie.Need-clear-drawn-requires
 clear-drawn-requires c κs =
     let start = c .before .before .before .before .before .before .before .before in
-    drawn-room _ _ (start .pre .1) _ _ _ (start .pre .0) (c .before .before .before .put-bytes .ensures)
+    drawn-room (start .args .version) _ _ (start .pre .1) _ _ _ (start .pre .0) (c .before .before .before .put-bytes .ensures)
 
 same-length : tie.Need-same-length
 same-length c = search needs
@@ -18,7 +18,7 @@ same-length c = search needs
 returns : tie.Need-returns
 returns c =
     let start = c .before .before .before .before .before .before .before .before .before .before .before in
-    geometries-written _ _ (start .pre .1) _ _ _ (start .pre .0) (c .before .before .before .before .before .before .put-bytes .ensures) _ (c .before .before .clear-drawn .ensures)
+    geometries-written (start .args .version) _ _ (start .pre .1) _ _ _ (start .pre .0) (c .before .before .before .before .before .before .put-bytes .ensures) _ (c .before .before .clear-drawn .ensures)
 
 pub write-geometries-spec : {M : Type 1} → statement M
 write-geometries-spec =

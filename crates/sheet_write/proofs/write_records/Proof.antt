@@ -3,7 +3,7 @@ use Prim.Native.Nat.{_/_}
 use mathlib.Core.Path.{_≡_}
 use native.Mathlib.Omega.{arith}
 use lib.ListN.{length}
-use Rattle.ray_tracing.specs.Layout.{size}
+use Rattle.ray_tracing.specs.Layout.{sizeIn}
 use Rattle.sheet_write.proofs.Tables.{late, room-there, records-written}
 use borrow.Author.Needs.{needs}
 use Rattle.sheet_write.proofs.write_records.Statement.{statement}
@@ -23,10 +23,10 @@ clear-records-requires c κs =
     let start = c .before .before .before .before .before .before .before .before .before .before in
     let k = start .args .section in
     let l = late k (start .pre .0 .0) (start .pre .0 .1) in
-    let q : c .before .before .before .before .before .records-in .result ≡ length (start .args .table .now) / size k = cc in (
+    let q : c .before .before .before .before .before .records-in .result ≡ length (start .args .table .now) / sizeIn (start .args .version) k = cc in (
       (start .pre .0 .1, l .1),
       (
-        rw q (room-there k (start .pre .0 .1) (l .0 .0) (l .0 .1) _ _ (start .pre .1 .1) _ _ _ (start .pre .1 .0) (c .before .before .before .put-bytes .ensures)),
+        rw q (room-there (start .args .version) k (start .pre .0 .1) (l .0 .0) (l .0 .1) _ _ (start .pre .1 .1) _ _ _ (start .pre .1 .0) (c .before .before .before .put-bytes .ensures)),
         λ e i _. absurd (omega (arith, e, start .pre .0 .0)),
       ),
     )
@@ -39,8 +39,8 @@ returns c =
     let start = c .before .before .before .before .before .before .before .before .before .before .before .before .before in
     let k = start .args .section in
     let l = late k (start .pre .0 .0) (start .pre .0 .1) in
-    let q : c .before .before .before .before .before .before .before .before .records-in .result ≡ length (start .args .table .now) / size k = cc in
-    records-written k (start .pre .0 .1) (l .0 .0) (l .0 .1) _ _ (start .pre .1 .1) _ _ _ (start .pre .1 .0) (c .before .before .before .before .before .before .put-bytes .ensures) _
+    let q : c .before .before .before .before .before .before .before .before .records-in .result ≡ length (start .args .table .now) / sizeIn (start .args .version) k = cc in
+    records-written (start .args .version) k (start .pre .0 .1) (l .0 .0) (l .0 .1) _ _ (start .pre .1 .1) _ _ _ (start .pre .1 .0) (c .before .before .before .before .before .before .put-bytes .ensures) _
     (rw q at (c .before .before .clear-records .ensures))
 
 pub write-records-spec : {M : Type 1} → statement M

@@ -60,7 +60,7 @@ returns-5 c =
     let k = start .args .section in
     let r = c .before .before .before .before .match .rest in
     let u : mayBeUnused k ≡ false = rw (ne-eqb k 3 (r .0 .0 .0 .1), ne-eqb k 6 (r .0 .0 .1), ne-eqb k 8 (r .0 .1), ne-eqb k 9 (r .1)) in
-    rw (used-table k (start .pre .0 .0) u _ _ (start .pre .1 .1)) (c .before .before .put-bytes .ensures)
+    rw (used-table (start .args .version) k (start .pre .0 .0) u _ _ (start .pre .1 .1)) (c .before .before .put-bytes .ensures)
 
 pub write-table-spec : {M : Type 1} → statement M
 write-table-spec =
