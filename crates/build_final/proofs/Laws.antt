@@ -12,7 +12,7 @@ use Rattle.ray_tracing.specs.Records.{entryAt, packageAt}
 use Rattle.ray_tracing.specs.Causes.{cause, bare}
 use Rattle.ray_tracing.specs.Layout.{size}
 use Rattle.ray_tracing.specs.Plan.{Verdict, passed, refused, on, _or_, blasOfEntry, tlasOfPackage, tlasDestroyed, blasBuildable}
-use Rattle.ray_tracing.specs.Parts.{forPackages, forEntries}
+use Rattle.ray_tracing.specs.Parts.{forPackages, ofEntries}
 
 module _ (tlases packages : List ℕ) (p : ℕ) {built : TlasPackage} {tlas : Tlas} (e : built ≡ packageAt packages (p * size 7)) (t : tlas ≡ tlasOfPackage (forPackages [] tlases packages []) p) where
   pub tlas-refused :
@@ -29,11 +29,11 @@ module _ (tlases packages : List ℕ) (p : ℕ) {built : TlasPackage} {tlas : Tl
 pub blas-judged :
     (blases entries : List ℕ) (i : ℕ) {entry : BlasBuildEntry} {blas : Blas} {v : Verdict}
     → entry ≡ entryAt entries (i * size 5)
-    → blas ≡ blasOfEntry (forEntries [] blases [] entries []) i
+    → blas ≡ blasOfEntry (ofEntries blases entries) i
     → v
     ≡ (on (eqb (blas .destroyed) 1) (refused i 0 (cause 21 2 (entry .blas .0) 0))
     or on (eqb (blas .«compacted_state») 3) (refused i 0 (bare 38)))
-    → v ≡ blasBuildable (forEntries [] blases [] entries []) i
+    → v ≡ blasBuildable (ofEntries blases entries) i
 blas-judged blases entries i e b v =
     v
     ∙ (λ k.

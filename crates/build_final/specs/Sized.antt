@@ -3,6 +3,7 @@ use Prim.Native.Nat.{ℕ, _-_, _^_}
 use mathlib.Core.List.{List, []}
 use Rattle.scratch.specs.declared.Rounding.{Rounding}
 use Rattle.scratch.specs.Scratch.{orPassed}
+use Rattle.ray_tracing.specs.declared.Version.the-variants as version
 use Rattle.ray_tracing.specs.declared.BuildAccelerationStructureError.the-variants as build
 use Rattle.ray_tracing.specs.Causes.{Cause, buildCause}
 use Rattle.ray_tracing.specs.Plan.{Tables, tablesOf, Verdict, passed, refused, scratchSize, judgeScratch}
@@ -13,12 +14,17 @@ use Rattle.build_final.specs.declared.ScratchSize.the-variants as scratc
 abbrev pub belowTop : ℕ → Rounding
 belowTop n = orPassed (2 ^ 64 - 2) n
 
+-- what the scratch and the states of structures read: no geometries, so of version 1
+abbrev pub ofStructures : ℕ → List ℕ → List ℕ → List ℕ → List ℕ → Tables
+ofStructures alignment blases tlases entries packages =
+    tablesOf version.One alignment [] blases [] tlases entries [] packages []
+
 -- what a running total reads
 abbrev pub ofEntriesAt : ℕ → List ℕ → List ℕ → Tables
-ofEntriesAt alignment blases entries = tablesOf alignment [] blases [] [] entries [] [] []
+ofEntriesAt alignment blases entries = ofStructures alignment blases [] entries []
 
 abbrev pub ofPackagesAt : ℕ → List ℕ → List ℕ → Tables
-ofPackagesAt alignment tlases packages = tablesOf alignment [] [] [] tlases [] [] packages []
+ofPackagesAt alignment tlases packages = ofStructures alignment [] tlases [] packages
 
 -- the size, or the refusal with E
 pub data Sized : Type 0 where

@@ -23,11 +23,11 @@ ghost use lib.Dec.{eqb};
 ghost use Rattle.ray_tracing.specs.Layout.{size};
 ghost use Rattle.ray_tracing.specs.Causes.{cause, bare};
 ghost use Rattle.scratch.specs.Scratch.{addRounded};
-ghost use Rattle.ray_tracing.specs.Plan.{tablesOf, packageOf, entryOf, blasTotal, tlasTotal, blasReached, tlasReached};
+ghost use Rattle.ray_tracing.specs.Plan.{packageOf, entryOf, blasTotal, tlasTotal, blasReached, tlasReached};
 ghost use Rattle.ray_tracing.specs.Plan.{refused, on, _or_, firstOf, tlasDestroyed, blasBuildable, judgeStates};
 ghost use Rattle.ray_tracing.specs.Code.{verdictOf};
-ghost use Rattle.build_final.specs.Sized.{belowTop, ofEntriesAt, ofPackagesAt, sizedOf, sizedUnless, scratchOf};
-ghost use Rattle.ray_tracing.specs.Parts.{forPackages, forEntries, entriesIn, packagesIn, PackagesNamed, EntriesNamed};
+ghost use Rattle.build_final.specs.Sized.{belowTop, ofStructures, ofEntriesAt, ofPackagesAt, sizedOf, sizedUnless, scratchOf};
+ghost use Rattle.ray_tracing.specs.Parts.{forPackages, ofEntries, entriesIn, packagesIn, PackagesNamed, EntriesNamed};
 
 const MAX: u64 = 18446744073709551615;
 
@@ -119,7 +119,7 @@ pub fn scratch_size(
     ensures { λ r. ⌜
         sizedOf r
         ≡ scratchOf
-        (tablesOf alignment [] (now (blases .entry)) [] (now (tlases .entry)) (now (entries .entry)) [] (now (packages .entry)) [])
+        (ofStructures alignment (now (blases .entry)) (now (tlases .entry)) (now (entries .entry)) (now (packages .entry)))
         ⌝ }
 {
     let of_entries = blas_total(alignment, blases, entries);
@@ -197,8 +197,8 @@ fn buildable(blas: Blas, id: BlasId, i: usize) -> Verdict
 
 fn blas_buildable(blases: &[u8], entries: &[u8], i: usize) -> Verdict
     requires { ⌜ i * size 5 + size 5 ≤ length (now entries) ⌝ }
-    requires { ⌜ entryOf (forEntries [] [] [] (now entries) []) i .blas .0 < length (now blases) / size 2 ⌝ }
-    ensures { λ r. ⌜ verdictOf r ≡ blasBuildable (forEntries [] (now (blases .entry)) [] (now (entries .entry)) []) i ⌝ }
+    requires { ⌜ entryOf (ofEntries [] (now entries)) i .blas .0 < length (now blases) / size 2 ⌝ }
+    ensures { λ r. ⌜ verdictOf r ≡ blasBuildable (ofEntries (now (blases .entry)) (now (entries .entry))) i ⌝ }
 {
     let entry = entry_at(entries, i * ENTRY_SIZE);
     let blas = blas_of_entry(blases, entries, i);
@@ -210,7 +210,7 @@ fn blases_buildable(blases: &[u8], entries: &[u8]) -> Verdict
     ensures { λ r. ⌜
         verdictOf r
         ≡ firstOf
-        (blasBuildable (forEntries [] (now (blases .entry)) [] (now (entries .entry)) []))
+        (blasBuildable (ofEntries (now (blases .entry)) (now (entries .entry))))
         0
         (entriesIn (now (entries .entry)))
         ⌝ }
@@ -233,7 +233,7 @@ pub fn judge_states(blases: &[u8], tlases: &[u8], entries: &[u8], packages: &[u8
     ensures { λ r. ⌜
         verdictOf r
         ≡ judgeStates
-        (tablesOf 0 [] (now (blases .entry)) [] (now (tlases .entry)) (now (entries .entry)) [] (now (packages .entry)) [])
+        (ofStructures 0 (now (blases .entry)) (now (tlases .entry)) (now (entries .entry)) (now (packages .entry)))
         ⌝ }
 {
     let v = tlases_destroyed(tlases, packages);

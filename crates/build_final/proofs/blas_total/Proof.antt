@@ -5,7 +5,7 @@ use Prim.Native.Nat.{_-_, _≤_}
 use Rattle.scratch.specs.Scratch.{addRounded}
 use Rattle.ray_tracing.specs.declared.Blas.{Blas}
 use Rattle.ray_tracing.specs.Plan.{firstOf, totalFrom, blasScratch, reachedAt}
-use Rattle.ray_tracing.specs.Parts.{forEntries}
+use Rattle.ray_tracing.specs.Parts.{ofEntries}
 use Rattle.ray_tracing.proofs.Verdicts.{from-start}
 use Rattle.ray_tracing.proofs.Stretches.{total-none}
 use Rattle.build_final.specs.Sized.{belowTop}
@@ -17,9 +17,9 @@ use Rattle.build_final.proofs.blas_total.Tie as tie
 abbrev Inv-loop : tie.InvT-loop
 Inv-loop alignment blases entries n total₀ i₀ total i =
     (i ≤ n)
-    × (total ≡ totalFrom (blasScratch (forEntries [] blases [] entries [])) alignment 0 0 i)
-    × (firstOf (reachedAt (blasScratch (forEntries [] blases [] entries [])) alignment 1) i (n - i)
-    ≡ firstOf (reachedAt (blasScratch (forEntries [] blases [] entries [])) alignment 1) 0 n)
+    × (total ≡ totalFrom (blasScratch (ofEntries blases entries)) alignment 0 0 i)
+    × (firstOf (reachedAt (blasScratch (ofEntries blases entries)) alignment 1) i (n - i)
+    ≡ firstOf (reachedAt (blasScratch (ofEntries blases entries)) alignment 1) 0 n)
 
 abbrev μ-loop : tie.MeasureT-loop
 μ-loop alignment blases entries n total₀ i₀ total i = n - i
@@ -34,7 +34,7 @@ returns : tie.Need-returns Inv-loop μ-loop
 returns c =
     let a = c .before .before .before .before .before .before .before .before .args in
     let l = c .before .before .before .before .before .loop in
-    total-reached (blasScratch (forEntries [] (a .blases .now) [] (a .entries .now) [])) (a .alignment) 1 _ (l .i) (l .total) (l .inv .1) (l .inv .2)
+    total-reached (blasScratch (ofEntries (a .blases .now) (a .entries .now))) (a .alignment) 1 _ (l .i) (l .total) (l .inv .1) (l .inv .2)
     (c .before .before .before .before .loop-test .taken)
     (sym (c .enum-told .given .1) ∙ c .before .before .add-below .ensures ∙ ap (λ (y : Blas). belowTop (addRounded (l .total) (y .«build_scratch_size») (a .alignment))) (c .before .before .before .blas-of-entry .ensures))
 
@@ -42,7 +42,7 @@ loop-again : tie.Need-loop-again Inv-loop μ-loop
 loop-again c =
     let a = c .before .before .before .before .before .before .before .before .before .args in
     let l = c .before .before .before .before .before .before .loop in
-    let f = blasScratch (forEntries [] (a .blases .now) [] (a .entries .now) []) in
+    let f = blasScratch (ofEntries (a .blases .now) (a .entries .now)) in
     let e = sym (c .before .sum .given .1) ∙ c .before .before .before .add-below .ensures ∙ ap (λ (y : Blas). belowTop (addRounded (l .total) (y .«build_scratch_size») (a .alignment))) (c .before .before .before .before .blas-of-entry .ensures) in (
       search needs,
       total-next f (a .alignment) 1 0 (l .i) (l .total) (l .inv .1) e,
@@ -53,7 +53,7 @@ returns-2 : tie.Need-returns-2 Inv-loop μ-loop
 returns-2 c =
     let a = c .before .before .before .before .args in
     let l = c .before .loop in
-    total-done (blasScratch (forEntries [] (a .blases .now) [] (a .entries .now) [])) (a .alignment) 1 _ (l .i) (l .total) (l .inv .1) (l .inv .2) (l .inv .0) (c .loop-test .left)
+    total-done (blasScratch (ofEntries (a .blases .now) (a .entries .now))) (a .alignment) 1 _ (l .i) (l .total) (l .inv .1) (l .inv .2) (l .inv .0) (c .loop-test .left)
 
 pub blas-total-spec : {M : Type 1} → statement M
 blas-total-spec =

@@ -5,13 +5,13 @@ use Prim.Native.Nat.{_-_, _≤_}
 use Rattle.ray_tracing.specs.Plan.{firstOf, blasBuildable}
 use Rattle.ray_tracing.specs.Code.{verdictOf}
 use Rattle.ray_tracing.proofs.Verdicts.{from-start, ended, found, onward}
-use Rattle.ray_tracing.specs.Parts.{forEntries}
+use Rattle.ray_tracing.specs.Parts.{ofEntries}
 use borrow.Author.Needs.{needs}
 use Rattle.build_final.proofs.blases_buildable.Statement.{statement}
 use Rattle.build_final.proofs.blases_buildable.Tie as tie
 
 abbrev Inv-loop : tie.InvT-loop
-Inv-loop blases entries n i₀ i = (i ≤ n) × (firstOf (blasBuildable (forEntries [] blases [] entries [])) i (n - i) ≡ firstOf (blasBuildable (forEntries [] blases [] entries [])) 0 n)
+Inv-loop blases entries n i₀ i = (i ≤ n) × (firstOf (blasBuildable (ofEntries blases entries)) i (n - i) ≡ firstOf (blasBuildable (ofEntries blases entries)) 0 n)
 
 abbrev μ-loop : tie.MeasureT-loop
 μ-loop blases entries n i₀ i = n - i
