@@ -68,11 +68,11 @@ module _ (x : Tables) (e : judgeEntries x ≡ passed) where
   entry-ranges :
       (i n j g : ℕ)
       → ((k : ℕ) → k < n → asked (checkedAt x i (j + k) (g + k)) ≡ geometryRanges (entryOf x i .kind) (geometryOf x (g + k)))
-      → rangesOfEntry x i j g n ≡ entryRanges (x .geometries) (entryOf x i .kind) g n
+      → rangesOfEntry x i j g n ≡ entryRanges (x .version) (x .geometries) (entryOf x i .kind) g n
   unfolding rangesOfEntry entryRanges
   entry-ranges i zero j g h = refl
   entry-ranges i (suc n) j g h =
-      let here : asked (checkedAt x i j g) ≡ geometryRanges (entryOf x i .kind) (geometryOf x g) = simp add-zero at (h 0 (omega arith)) in
+      let here : asked (checkedAt x i j g) ≡ geometryRanges (entryOf x i .kind) (geometryOf x g) = rw (add-zero j, add-zero g) at (h 0 (omega arith)) in
       let more = entry-ranges i n (j + 1) (g + 1) (λ k l. rw (next j k, next g k) (h (suc k) (omega arith))) in
       λ p. here p ++ more p
     where
@@ -80,7 +80,7 @@ module _ (x : Tables) (e : judgeEntries x ≡ passed) where
       next a k = omega arith
 
   ranges-part :
-      (n i g : ℕ) → g ≡ drawnBefore x i → i + n ≤ recordsIn x 5 → rangesFrom x i g n ≡ allRanges (x .entries) (x .geometries) i g n
+      (n i g : ℕ) → g ≡ drawnBefore x i → i + n ≤ recordsIn x 5 → rangesFrom x i g n ≡ allRanges (x .version) (x .entries) (x .geometries) i g n
   unfolding rangesFrom allRanges
   ranges-part zero i g f h = refl
   ranges-part (suc n) i g f h =
@@ -90,7 +90,7 @@ module _ (x : Tables) (e : judgeEntries x ≡ passed) where
 
   -- the plan
   pub plan-is :
-      planOf x ≡ planned (x .alignment) (x .blases) (x .tlases) (x .entries) (x .geometries) (x .packages) (x .slots)
+      planOf x ≡ planned (x .version) (x .alignment) (x .blases) (x .tlases) (x .entries) (x .geometries) (x .packages) (x .slots)
   unfolding planOf
   plan-is =
       λ p. record {
@@ -153,13 +153,13 @@ module _ (x : Tables) (e : judgePackages x ≡ passed) where
 
 module _ (x : Tables) (i : Inside x) (e : judgeEntries x ≡ passed) (bytes : (k : ℕ) → getD (x .buffers) k 0 < 256) where
   geometries-fit :
-      (k : ℕ) → k < recordsIn x 5 → AllFit (x .geometries) (entryOf x k .kind) (drawnBefore x k) (geometryCount x k)
+      (k : ℕ) → k < recordsIn x 5 → AllFit (x .version) (x .geometries) (entryOf x k .kind) (drawnBefore x k) (geometryCount x k)
   geometries-fit k h g l m =
       let j = g - drawnBefore x k in
       let f : drawnBefore x k + j ≡ g = omega arith in
       rw (← f) (asked-fits x k j (drawnBefore x k + j) (geometry-passed x e k j h (omega arith)) bytes)
 
-  pub geometries-drawn : DrawnFit (x .entries) (x .geometries)
+  pub geometries-drawn : DrawnFit (x .version) (x .entries) (x .geometries)
   unfolding drawnBefore
   geometries-drawn = record { drawn = i .drawn; most = i .most 6 (omega arith) (omega arith); fit = geometries-fit }
 
@@ -170,7 +170,7 @@ module _ (x : Tables) (i : Inside x) (e : judgeEntries x ≡ passed) (bytes : (k
   pub plannable :
       judgePackages x ≡ passed
       → judgeScratch x ≡ passed
-      → Plannable (x .alignment) (x .blases) (x .tlases) (x .entries) (x .geometries) (x .packages) (x .slots)
+      → Plannable (x .version) (x .alignment) (x .blases) (x .tlases) (x .entries) (x .geometries) (x .packages) (x .slots)
   plannable p s =
       record {
         aligned = i .aligned;

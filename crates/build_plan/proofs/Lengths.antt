@@ -5,6 +5,7 @@ use Prim.Native.Nat.{ℕ, _+_, _*_}
 use native.Mathlib.Nat.{zero-add}
 use native.Mathlib.Omega.{arith}
 use lib.ListN.{length, length-append}
+use Rattle.ray_tracing.specs.declared.Version.{Version}
 use Rattle.ray_tracing.specs.declared.Written.{Written}
 use Rattle.ray_tracing.specs.Instances.{presentOf}
 use Rattle.ray_tracing.specs.Plan.{blasScratch, tlasScratch, entryBlases, packageLists, compactableFrom, countsOf}
@@ -12,7 +13,7 @@ use Rattle.ray_tracing.proofs.Inside.{slotsBefore, slots-none}
 use Rattle.ray_tracing.proofs.Instances.{slots-length}
 use Rattle.ray_tracing.proofs.Plan.{offsets-length, staging-length, blases-length, present-zero, packages-length}
 use Rattle.ray_tracing.specs.Parts.{entriesIn, ofEntries, packagesIn, ofPackages}
-use Rattle.build_lists.specs.Lists.{slotsIn, Drawn}
+use Rattle.build_lists.specs.Lists.{slotsIn, Drawn, listsIn}
 use Rattle.build_ranges.specs.Ranges.{allRanges}
 use Rattle.build_plan.specs.Planned.{planned}
 
@@ -20,7 +21,7 @@ module _ (packages slots : List ℕ) (d : Drawn packages slots) where
   lists-length :
       (entries : List ℕ)
       → entriesIn entries + 2 * packagesIn packages + presentOf slots 0 (slotsIn slots)
-      ≡ length (planned 0 [] [] entries [] packages slots .lists)
+      ≡ length (listsIn entries packages slots)
   lists-length entries =
       let x = ofPackages [] packages slots in
       let n = packagesIn packages in
@@ -35,9 +36,9 @@ module _ (packages slots : List ℕ) (d : Drawn packages slots) where
       ))
 
   pub counts-are :
-      {ranges compactable present : ℕ} (blases entries geometries : List ℕ)
+      {ranges compactable present : ℕ} (v : Version) (blases entries geometries : List ℕ)
       → present ≡ presentOf slots 0 (slotsIn slots)
-      → ranges ≡ length (allRanges entries geometries 0 0 (entriesIn entries))
+      → ranges ≡ length (allRanges v entries geometries 0 0 (entriesIn entries))
       → compactable ≡ length (compactableFrom (ofEntries blases entries) 0 (entriesIn entries))
       → _≡_ {A = Written} (record {
         «blas_offsets» = entriesIn entries;
@@ -48,8 +49,8 @@ module _ (packages slots : List ℕ) (d : Drawn packages slots) where
         compactable = compactable;
         lists = entriesIn entries + 2 * packagesIn packages + present;
       })
-      (countsOf (planned 0 blases [] entries geometries packages slots))
-  counts-are blases entries geometries e f g =
+      (countsOf (planned v 0 blases [] entries geometries packages slots))
+  counts-are v blases entries geometries e f g =
       λ j. record {
         «blas_offsets» = sym (offsets-length (blasScratch (ofEntries blases entries)) 0 0 0 (entriesIn entries)) j;
         «tlas_offsets» = sym (offsets-length (tlasScratch (ofPackages [] packages [])) 0 0 0 (packagesIn packages)) j;
@@ -62,10 +63,10 @@ module _ (packages slots : List ℕ) (d : Drawn packages slots) where
 
 -- no alignment and no Tlas changes how many there are
 pub counts-any :
-    (alignment : ℕ) (blases tlases entries geometries packages slots : List ℕ)
-    → countsOf (planned 0 blases [] entries geometries packages slots) ≡ countsOf (planned alignment blases tlases entries geometries packages slots)
-counts-any alignment blases tlases entries geometries packages slots =
-    let p = planned alignment blases tlases entries geometries packages slots in
+    (v : Version) (alignment : ℕ) (blases tlases entries geometries packages slots : List ℕ)
+    → countsOf (planned v 0 blases [] entries geometries packages slots) ≡ countsOf (planned v alignment blases tlases entries geometries packages slots)
+counts-any v alignment blases tlases entries geometries packages slots =
+    let p = planned v alignment blases tlases entries geometries packages slots in
     let b = blasScratch (ofEntries blases entries) in
     let n = entriesIn entries in
     let m = packagesIn packages in

@@ -2,26 +2,27 @@
 use Prim.Native.Nat.{ℕ, _≤_}
 use mathlib.Core.List.{List}
 use lib.ListN.{length}
+use Rattle.ray_tracing.specs.declared.Version.{Version}
 use Rattle.ray_tracing.specs.Plan.{Outputs}
 use Rattle.ray_tracing.specs.Parts.{PackagesNamed, EntriesNamed}
 use Rattle.build_ranges.specs.Ranges.{rangesIn, DrawnFit}
 use Rattle.build_lists.specs.Lists.{Drawn, listsIn}
 use Rattle.build_plan.specs.Parts.{blasOffsets, BlasBelow, tlasOffsets, TlasBelow, stagingIn, instancesIn, compactableIn, AllWritable}
 
-abbrev pub planned : ℕ → List ℕ → List ℕ → List ℕ → List ℕ → List ℕ → List ℕ → Outputs
-planned alignment blases tlases entries geometries packages slots =
+abbrev pub planned : Version → ℕ → List ℕ → List ℕ → List ℕ → List ℕ → List ℕ → List ℕ → Outputs
+planned v alignment blases tlases entries geometries packages slots =
     record {
       «blas_offsets» = blasOffsets alignment blases entries;
       «tlas_offsets» = tlasOffsets alignment tlases packages;
       «staging_ranges» = stagingIn packages slots;
       instances = instancesIn blases slots;
-      «init_ranges» = rangesIn entries geometries;
+      «init_ranges» = rangesIn v entries geometries;
       compactable = compactableIn blases entries;
       lists = listsIn entries packages slots;
     }
 
 -- what judging showed of them
-pub record Plannable (alignment : ℕ) (blases tlases entries geometries packages slots : List ℕ) : Type 0 where
+pub record Plannable (v : Version) (alignment : ℕ) (blases tlases entries geometries packages slots : List ℕ) : Type 0 where
   pub aligned : 1 ≤ alignment
   pub entry-blases : EntriesNamed blases entries
   pub blas-below : BlasBelow alignment blases entries
@@ -29,7 +30,7 @@ pub record Plannable (alignment : ℕ) (blases tlases entries geometries package
   pub tlas-below : TlasBelow alignment tlases packages
   pub slots-drawn : Drawn packages slots
   pub writable : AllWritable blases slots
-  pub geometries-drawn : DrawnFit entries geometries
+  pub geometries-drawn : DrawnFit v entries geometries
 
 -- no output is too short
 pub record PlanRoom (p o : Outputs) : Type 0 where

@@ -9,6 +9,7 @@ use ray_tracing::ENTRY_SIZE;
 use ray_tracing::INSTANCE_SIZE;
 use ray_tracing::PACKAGE_SIZE;
 use ray_tracing::SLOT_SIZE;
+use ray_tracing::Version;
 use ray_tracing::Written;
 use records::blas_of_entry;
 use records::entry_at;
@@ -159,6 +160,7 @@ fn count_compactable(blases: &[u8], entries: &[u8]) -> usize
 
 // How many elements of each output a recorded build writes: no alignment and no Tlas changes that.
 pub fn counts(
+    version: Version,
     blases: &[u8],
     entries: &[u8],
     geometries: &[u8],
@@ -166,12 +168,13 @@ pub fn counts(
     slots: &[u8],
 ) -> Written
     requires { ⌜
-        EntriesNamed (now blases) (now entries) × DrawnFit (now entries) (now geometries) × Drawn (now packages) (now slots)
+        EntriesNamed (now blases) (now entries) × DrawnFit version (now entries) (now geometries) × Drawn (now packages) (now slots)
         ⌝ }
     ensures { λ r. ⌜
         r
         ≡ countsOf
         (planned
+        version
         0
         (now (blases .entry))
         []
@@ -184,7 +187,7 @@ pub fn counts(
     let blas_offsets = entries.len() / ENTRY_SIZE;
     let tlas_offsets = packages.len() / PACKAGE_SIZE;
     let present = present_of(slots, 0, slots.len() / SLOT_SIZE);
-    let init_ranges = count_ranges(entries, geometries);
+    let init_ranges = count_ranges(version, entries, geometries);
     let compactable = count_compactable(blases, entries);
     Written {
         blas_offsets,
@@ -199,6 +202,7 @@ pub fn counts(
 
 // All seven outputs.
 pub fn write_plan(
+    version: Version,
     alignment: u32,
     blases: &[u8],
     tlases: &[u8],
@@ -215,11 +219,11 @@ pub fn write_plan(
     lists: &mut [u16],
 )
     requires { ⌜
-        Plannable alignment (now blases) (now tlases) (now entries) (now geometries) (now packages) (now slots)
+        Plannable version alignment (now blases) (now tlases) (now entries) (now geometries) (now packages) (now slots)
         ⌝ }
     requires { ⌜
         PlanRoom
-        (planned alignment (now blases) (now tlases) (now entries) (now geometries) (now packages) (now slots))
+        (planned version alignment (now blases) (now tlases) (now entries) (now geometries) (now packages) (now slots))
         (outputsOf
         (now «blas_offsets»)
         (now «tlas_offsets»)
@@ -240,6 +244,7 @@ pub fn write_plan(
         (now (lists .exit))
         ≡ written
         (planned
+        version
         alignment
         (now (blases .entry))
         (now (tlases .entry))
@@ -261,7 +266,7 @@ pub fn write_plan(
     write_tlas_offsets(alignment, tlases, packages, tlas_offsets);
     write_staging_ranges(packages, slots, staging_ranges);
     write_instances(blases, slots, instances);
-    write_init_ranges(entries, geometries, init_ranges);
+    write_init_ranges(version, entries, geometries, init_ranges);
     write_compactable(blases, entries, compactable);
     write_lists(entries, packages, slots, lists);
 }
