@@ -8,22 +8,22 @@ use lib.ListN.{length}
 use lib.Dec.{eqb}
 use borrow.Author.Tests.{eq-eqb, ne-eqb}
 use Rattle.ray_tracing.specs.Causes.{Cause}
-use Rattle.ray_tracing.specs.Layout.{size}
+use Rattle.ray_tracing.specs.Layout.{size, sizeIn}
 use Rattle.ray_tracing.specs.Plan.{Tables, Verdict, passed, refused, _or_, judgeTables, judgeIds, judgeEntries, judgePackages, scratchSize, judgeScratch, judgeStates, judgeFinal, tablesOf}
 use Rattle.ray_tracing.proofs.Verdicts.{or-passed, refused-not-passed}
 use Rattle.ray_tracing.proofs.Running.{refused-size}
 use Rattle.ray_tracing.proofs.Inside.{drawnBefore, slotsBefore, Inside, inside, tables-drawn, tables-slots}
-use Rattle.ray_tracing.specs.Parts.{forPackages, forEntries, entriesIn, packagesIn, PackagesNamed, EntriesNamed}
+use Rattle.ray_tracing.specs.Parts.{forPackages, forEntries, ofEntries, entriesIn, packagesIn, PackagesNamed, EntriesNamed}
 use Rattle.build_packages.specs.Within.{PackagesInside}
 use Rattle.build_ids.proofs.Laws.{or-first, or-second}
-use Rattle.build_final.specs.Sized.{Sized, sized, reached, sizedUnless, scratchOf}
+use Rattle.build_final.specs.Sized.{ofStructures, Sized, sized, reached, sizedUnless, scratchOf}
 use Rattle.build_final.proofs.Shared.{told-reached, told-sized}
 use Rattle.build_judge.specs.Judging.{BuildJudged, to-refuse, to-record-nothing, to-record, judgedUnless, judgeToPackages, judgeSize, judgeBuild}
 
 module _ (x : Tables) where
   -- what judging ids and packages reads of the tables
   abbrev idsPart : Tables
-  idsPart = tablesOf 0 (x .buffers) (x .blases) [] (x .tlases) (x .entries) (x .geometries) (x .packages) (x .slots)
+  idsPart = tablesOf (x .version) 0 (x .buffers) (x .blases) [] (x .tlases) (x .entries) (x .geometries) (x .packages) (x .slots)
 
   abbrev packagesPart : Tables
   packagesPart = forPackages (x .blases) (x .tlases) (x .packages) (x .slots)
@@ -32,7 +32,7 @@ module _ (x : Tables) where
   unfolding judgeIds
   ids-part = refl
 
-  entries-part : judgeEntries (forEntries (x .buffers) (x .blases) (x .declared) (x .entries) (x .geometries)) ≡ judgeEntries x
+  entries-part : judgeEntries (forEntries (x .version) (x .buffers) (x .blases) (x .declared) (x .entries) (x .geometries)) ≡ judgeEntries x
   unfolding judgeEntries
   entries-part = refl
 
@@ -44,7 +44,7 @@ module _ (x : Tables) where
 
   pub sums :
       judgeTables x ≡ passed
-      → (drawnBefore (forEntries [] [] [] (x .entries) []) (entriesIn (x .entries)) ≡ length (x .geometries) / size 6)
+      → (drawnBefore (ofEntries [] (x .entries)) (entriesIn (x .entries)) ≡ length (x .geometries) / sizeIn (x .version) 6)
       × (slotsBefore (forPackages [] [] (x .packages) []) (packagesIn (x .packages)) ≡ length (x .slots) / size 8)
   unfolding drawnBefore slotsBefore
   sums t = (tables-drawn x t, tables-slots x t)
@@ -73,7 +73,7 @@ module _ (x : Tables) where
         → i ≡ judgeIds idsPart
         → i ≡ passed
         → v ≡ (e or k)
-        → e ≡ judgeEntries (forEntries (x .buffers) (x .blases) (x .declared) (x .entries) (x .geometries))
+        → e ≡ judgeEntries (forEntries (x .version) (x .buffers) (x .blases) (x .declared) (x .entries) (x .geometries))
         → k ≡ judgePackages packagesPart
         → v ≡ judgeToPackages x
     unfolding judgeToPackages
@@ -96,7 +96,7 @@ module _ (x : Tables) where
   packages-named h = h .package-tlas
 
   abbrev scratchPart : Tables
-  scratchPart = tablesOf (x .alignment) [] (x .blases) [] (x .tlases) (x .entries) [] (x .packages) []
+  scratchPart = ofStructures (x .alignment) (x .blases) (x .tlases) (x .entries) (x .packages)
 
   scratch-part : scratchOf scratchPart ≡ sizedUnless (judgeScratch x) (scratchSize x)
   unfolding scratchOf judgeScratch scratchSize

@@ -8,12 +8,13 @@ use build_packages::judge_packages;
 use build_tables::judge_tables;
 use ray_tracing::BuildAccelerationStructureError;
 use ray_tracing::Verdict;
+use ray_tracing::Version;
 use ray_tracing::first;
 ghost use mathlib.Core.Path.{_≡_};
-ghost use mathlib.Core.List.{[]};
 ghost use Rattle.ray_tracing.specs.Code.{verdictOf};
 ghost use Rattle.ray_tracing.specs.Plan.{tablesOf};
 ghost use Rattle.ray_tracing.specs.Parts.{PackagesNamed, EntriesNamed};
+ghost use Rattle.build_final.specs.Sized.{ofStructures};
 ghost use Rattle.build_judge.specs.Judging.{judgementOf, judgeToPackages, judgeSize, judgeBuild};
 
 // What judging finds: the first refusal, with E; nothing to record; or a build to record, with its scratch size, if there is room.
@@ -25,6 +26,7 @@ pub enum Judgement {
 
 // Tables, ids, entries, packages: what is judged in any case.
 fn judge_records(
+    version: Version,
     alignment: u32,
     buffers: &[u8],
     blases: &[u8],
@@ -39,6 +41,7 @@ fn judge_records(
         verdictOf r
         ≡ judgeToPackages
         (tablesOf
+        version
         alignment
         (now (buffers .entry))
         (now (blases .entry))
@@ -51,6 +54,7 @@ fn judge_records(
         ⌝ }
 {
     let t = judge_tables(
+        version,
         alignment,
         buffers,
         blases,
@@ -65,6 +69,7 @@ fn judge_records(
         return t;
     }
     let i = judge_ids(
+        version,
         buffers,
         blases,
         tlases,
@@ -76,7 +81,7 @@ fn judge_records(
     if let Verdict::Refused(_, _, _) = i {
         return i;
     }
-    let e = judge_entries(buffers, blases, declared, entries, geometries);
+    let e = judge_entries(version, buffers, blases, declared, entries, geometries);
     first(e, judge_packages(blases, tlases, packages, slots))
 }
 
@@ -87,7 +92,7 @@ fn judge_size(size: u64, blases: &[u8], tlases: &[u8], entries: &[u8], packages:
         judgementOf r
         ≡ judgeSize
         size
-        (tablesOf 0 [] (now (blases .entry)) [] (now (tlases .entry)) (now (entries .entry)) [] (now (packages .entry)) [])
+        (ofStructures 0 (now (blases .entry)) (now (tlases .entry)) (now (entries .entry)) (now (packages .entry)))
         ⌝ }
 {
     if size == 0 {
@@ -102,6 +107,7 @@ fn judge_size(size: u64, blases: &[u8], tlases: &[u8], entries: &[u8], packages:
 
 // A build, up to where only room is left to judge.
 pub fn judge_build(
+    version: Version,
     alignment: u32,
     buffers: &[u8],
     blases: &[u8],
@@ -116,6 +122,7 @@ pub fn judge_build(
         judgementOf r
         ≡ judgeBuild
         (tablesOf
+        version
         alignment
         (now (buffers .entry))
         (now (blases .entry))
@@ -128,6 +135,7 @@ pub fn judge_build(
         ⌝ }
 {
     let v = judge_records(
+        version,
         alignment,
         buffers,
         blases,
