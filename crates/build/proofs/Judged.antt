@@ -61,26 +61,26 @@ module _ (x : Tables) where
 
   -- what was judged is what counting and writing ask; bytes are below 256
   module _ (bytes : (k : ℕ) → getD (x .buffers) k 0 < 256) (p : Passed x) where
-    passed-drawn : DrawnFit (x .entries) (x .geometries)
+    passed-drawn : DrawnFit (x .version) (x .entries) (x .geometries)
     passed-drawn = geometries-drawn x (inside x (p .tables) (p .ids)) (p .entries) bytes
 
     passed-plannable :
         plan.judgeScratch x ≡ plan.passed
-        → Plannable (x .alignment) (x .blases) (x .tlases) (x .entries) (x .geometries) (x .packages) (x .slots)
+        → Plannable (x .version) (x .alignment) (x .blases) (x .tlases) (x .entries) (x .geometries) (x .packages) (x .slots)
     passed-plannable s = plannable x (inside x (p .tables) (p .ids)) (p .entries) bytes (p .packages) s
 
   module _ {j : Judgement} (k : judgementOf j ≡ judgeBuild x) where
     told : {i : Judgement} → j ≡ i → judgeBuild x ≡ judgementOf i
     told h = sym k ∙ ap judgementOf h
 
-    pub nothing-drawn : ((k : ℕ) → getD (x .buffers) k 0 < 256) → j ≡ judgement.Nothing → DrawnFit (x .entries) (x .geometries)
+    pub nothing-drawn : ((k : ℕ) → getD (x .buffers) k 0 < 256) → j ≡ judgement.Nothing → DrawnFit (x .version) (x .entries) (x .geometries)
     nothing-drawn bytes h = passed-drawn bytes (nothing-passed x (told h))
 
     pub record-plannable :
         ((k : ℕ) → getD (x .buffers) k 0 < 256)
         → (n : ℕ)
         → j ≡ judgement.ToRecord n
-        → Plannable (x .alignment) (x .blases) (x .tlases) (x .entries) (x .geometries) (x .packages) (x .slots)
+        → Plannable (x .version) (x .alignment) (x .blases) (x .tlases) (x .entries) (x .geometries) (x .packages) (x .slots)
     record-plannable bytes n h = passed-plannable bytes (recorded-passed x n (told h)) (recorded-scratch x n (told h))
 
     pub refused-build :
@@ -101,10 +101,10 @@ module _ (x : Tables) where
       pub record-build :
           {w : Written} (n : ℕ)
           → j ≡ judgement.ToRecord n
-          → w ≡ countsOf (planned 0 (x .blases) [] (x .entries) (x .geometries) (x .packages) (x .slots))
+          → w ≡ countsOf (planned (x .version) 0 (x .blases) [] (x .entries) (x .geometries) (x .packages) (x .slots))
           → recordedIf n w lent ≡ build x o
       record-build n h e =
-          let all = e ∙ counts-any (x .alignment) (x .blases) (x .tlases) (x .entries) (x .geometries) (x .packages) (x .slots) in
+          let all = e ∙ counts-any (x .version) (x .alignment) (x .blases) (x .tlases) (x .entries) (x .geometries) (x .packages) (x .slots) in
           let counts = all ∙ ap countsOf (plan-from (recorded-passed x n (told h))) in
           (λ i. recordedIf n (counts i) (sym l i)) ∙ sym (answer-recorded x o n (told h))
 

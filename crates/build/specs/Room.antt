@@ -31,19 +31,19 @@ nothingIf cells lent = unless (on (ltb lent cells) (refused 0 0 (bare 39))) (not
 
 -- what is written, from the sections that it looks at
 abbrev pub planFrom : Tables → Outputs
-planFrom x = planned (x .alignment) (x .blases) (x .tlases) (x .entries) (x .geometries) (x .packages) (x .slots)
+planFrom x = planned (x .version) (x .alignment) (x .blases) (x .tlases) (x .entries) (x .geometries) (x .packages) (x .slots)
 
 abbrev pub rangesOut : Tables → List ℕ
-rangesOut x = allRanges (x .entries) (x .geometries) 0 0 (entriesIn (x .entries))
+rangesOut x = allRanges (x .version) (x .entries) (x .geometries) 0 0 (entriesIn (x .entries))
 
 -- what an answer may write was judged, and has room
 pub record Writes (b : Building) (x : Tables) (o : Outputs) : Type 0 where
   pub plan :
       (n : ℕ) (w : Written)
       → b ≡ recorded n w
-      → Plannable (x .alignment) (x .blases) (x .tlases) (x .entries) (x .geometries) (x .packages) (x .slots)
+      → Plannable (x .version) (x .alignment) (x .blases) (x .tlases) (x .entries) (x .geometries) (x .packages) (x .slots)
       × PlanRoom (planFrom x) o
   pub ranges :
       (n : ℕ)
       → b ≡ nothing-recorded n
-      → DrawnFit (x .entries) (x .geometries) × (length (rangesOut x) ≤ length (o .«init_ranges»))
+      → DrawnFit (x .version) (x .entries) (x .geometries) × (length (rangesOut x) ≤ length (o .«init_ranges»))

@@ -7,6 +7,7 @@ use build_ranges::count_ranges;
 use build_ranges::write_init_ranges;
 use ray_tracing::BuildAccelerationStructureError;
 use ray_tracing::Built;
+use ray_tracing::Version;
 use ray_tracing::Written;
 ghost use mathlib.Core.Path.{_≡_};
 ghost use mathlib.Core.List.{[]};
@@ -60,6 +61,7 @@ fn nothing_if(cells: usize, lent: usize) -> Built
 
 // The answer, for outputs of these lengths.
 fn judge(
+    version: Version,
     alignment: u32,
     buffers: &[u8],
     blases: &[u8],
@@ -77,6 +79,7 @@ fn judge(
         → buildingOf r
         ≡ build
         (tablesOf
+        version
         alignment
         (now (buffers .entry))
         (now (blases .entry))
@@ -90,6 +93,7 @@ fn judge(
         ⌝ }
 {
     let judged = judge_build(
+        version,
         alignment,
         buffers,
         blases,
@@ -102,10 +106,10 @@ fn judge(
     );
     match judged {
         Judgement::Refused(error, e, f) => Built::Refused(error, e, f),
-        Judgement::Nothing => nothing_if(count_ranges(entries, geometries), lent.init_ranges),
+        Judgement::Nothing => nothing_if(count_ranges(version, entries, geometries), lent.init_ranges),
         Judgement::ToRecord(size) => recorded_if(
             size,
-            counts(blases, entries, geometries, packages, slots),
+            counts(version, blases, entries, geometries, packages, slots),
             lent,
         ),
     }
@@ -114,6 +118,7 @@ fn judge(
 // What the answer says is written: a refusal writes nothing.
 fn write(
     built: Built,
+    version: Version,
     alignment: u32,
     blases: &[u8],
     tlases: &[u8],
@@ -132,7 +137,7 @@ fn write(
     requires { ⌜
         Writes
         (buildingOf built)
-        (tablesOf alignment [] (now blases) [] (now tlases) (now entries) (now geometries) (now packages) (now slots))
+        (tablesOf version alignment [] (now blases) [] (now tlases) (now entries) (now geometries) (now packages) (now slots))
         (outputsOf
         (now «blas_offsets»)
         (now «tlas_offsets»)
@@ -155,6 +160,7 @@ fn write(
         (buildingOf built)
         (planFrom
         (tablesOf
+        version
         alignment
         []
         (now (blases .entry))
@@ -176,6 +182,7 @@ fn write(
 {
     match built {
         Built::Recorded(_, _) => write_plan(
+            version,
             alignment,
             blases,
             tlases,
@@ -191,12 +198,13 @@ fn write(
             compactable,
             lists,
         ),
-        Built::NothingRecorded(_) => write_init_ranges(entries, geometries, init_ranges),
+        Built::NothingRecorded(_) => write_init_ranges(version, entries, geometries, init_ranges),
         Built::Refused(_, _, _) => {}
     }
 }
 
 pub fn build_acceleration_structures(
+    version: Version,
     alignment: u32,
     buffers: &[u8],
     blases: &[u8],
@@ -217,6 +225,7 @@ pub fn build_acceleration_structures(
     ensures { λ r. ⌜
         Builds
         (tablesOf
+        version
         alignment
         (now (buffers .entry))
         (now (blases .entry))
@@ -255,6 +264,7 @@ pub fn build_acceleration_structures(
         lists: lists.len(),
     };
     let built = judge(
+        version,
         alignment,
         buffers,
         blases,
@@ -268,6 +278,7 @@ pub fn build_acceleration_structures(
     );
     write(
         built,
+        version,
         alignment,
         blases,
         tlases,
