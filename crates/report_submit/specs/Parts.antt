@@ -3,6 +3,7 @@ use Prim.Native.Nat.{ℕ, _*_, _/_, _≤_}
 use mathlib.Core.Bool.{Bool, cond}
 use mathlib.Core.List.{List, []}
 use lib.ListN.{length}
+use Rattle.ray_tracing.specs.declared.Version.the-variants as version
 use Rattle.ray_tracing.specs.Layout.{layout, size}
 use Rattle.ray_tracing.specs.Records.{fieldAt}
 use Rattle.ray_tracing.specs.Plan.{Tables, tablesOf}
@@ -32,7 +33,7 @@ places recorded actions = positions recorded actions 0 (actionsIn actions)
 
 -- the tables that a submission looks at
 abbrev pub lentParts : List ℕ → List ℕ → List ℕ → List ℕ → Tables
-lentParts blases tlases entries packages = tablesOf 0 [] blases [] tlases entries [] packages []
+lentParts blases tlases entries packages = tablesOf version.One 0 [] blases [] tlases entries [] packages []
 
 -- `sheetOutcome` with the recorded Build's lists as they were lent
 unfoldable pub submissionOutcome : ℕ → Tables → Bool → List ℕ → List ℕ → Outcome
