@@ -98,7 +98,7 @@ reading-most : (s : List ℕ) (r : Reading) → readSheet s ≡ r → length (re
 unfolding builtLines
 reading-most s (rejected n p) e = omega (arith, line-most word-sheet (n ∷ p ∷ []))
 reading-most s (accepted x) e =
-    let t = sheetTables (x .alignment) (table s) in
+    let t = sheetTables (x .version) (x .alignment) (table s) in
     answer-most (x .counter) t (table s 9) (build t (planOf t))
     (lent-tells _ _ _ _ _ (accepted-lent s x e 4 (lit< tt)) .few)
     (lent-tells _ _ _ _ _ (accepted-lent s x e 6 (lit< tt)) .few)

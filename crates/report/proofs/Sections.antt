@@ -7,8 +7,8 @@ use lib.Dec.{lit<}
 use lib.ListN.{length, take, drop}
 use Rattle.ray_tracing.specs.declared.Section.{Section}
 use Rattle.ray_tracing.specs.declared.Sheet.{Sheet}
-use Rattle.ray_tracing.specs.Layout.{layout, size}
-use Rattle.ray_tracing.specs.Reading.{sectionOf, sheetOf, accepted, readSheet, table}
+use Rattle.ray_tracing.specs.Layout.{layoutIn, sizeIn}
+use Rattle.ray_tracing.specs.Reading.{versionIn, sectionOf, sheetOf, accepted, readSheet, table}
 use Rattle.ray_tracing.specs.Report.{builtLines}
 use Rattle.ray_tracing.specs.Explain.{builtRefusal}
 use Rattle.ray_tracing.specs.Plan.{tablesOf}
@@ -17,19 +17,22 @@ use Rattle.report_submit.specs.Parts.{Lendable}
 use Rattle.report.specs.Parts.{tableLines, tableRefusal}
 
 module _ (s : List ℕ) (x : Sheet) (e : readSheet s ≡ accepted x) where
+  version-is : x .version ≡ versionIn s
+  version-is = ap (λ (y : Sheet). y .version) (accepted-is s x e)
+
   -- the section after section k, as the sheet's field f tells it
   module _ (k : ℕ) (h : k < 9) (f : Sheet → Section) (g : f (sheetOf s) ≡ sectionOf s k) where
     section-is : f x ≡ sectionOf s k
     section-is = ap f (accepted-is s x e) ∙ g
 
-    pub part-inside : f x .start + f x .count * size (k + 1) ≤ length s
-    part-inside = rw section-is (accepted-whole s x e k h)
+    pub part-inside : f x .start + f x .count * sizeIn (x .version) (k + 1) ≤ length s
+    part-inside = rw (section-is, version-is) (accepted-whole s x e k h)
 
-    pub part-is : take (f x .count * size (k + 1)) (drop (f x .start) s) ≡ table s (k + 1)
-    part-is = rw section-is (sym (table-section s k))
+    pub part-is : take (f x .count * sizeIn (x .version) (k + 1)) (drop (f x .start) s) ≡ table s (k + 1)
+    part-is = rw (section-is, version-is) (sym (table-section s k))
 
-  lent : (k : ℕ) → k < 9 → Lent (k + 1) (layout (k + 1)) (size k) (table s k) (table s (k + 1))
-  lent k h = lent-tells (k + 1) (layout (k + 1)) (size k) (table s k) (table s (k + 1)) (accepted-lent s x e k h)
+  lent : (k : ℕ) → k < 9 → Lent (k + 1) (layoutIn (versionIn s) (k + 1)) (sizeIn (versionIn s) k) (table s k) (table s (k + 1))
+  lent k h = lent-tells (k + 1) (layoutIn (versionIn s) (k + 1)) (sizeIn (versionIn s) k) (table s k) (table s (k + 1)) (accepted-lent s x e k h)
 
   pub parts-lendable :
       {blases tlases entries packages actions : List ℕ}
@@ -65,10 +68,10 @@ module _
     (h : t8 ≡ table s 8)
     (i : t9 ≡ table s 9)
   where
-    pub accepted-lines : tableLines (x .counter) (tablesOf (x .alignment) t1 t2 t3 t4 t5 t6 t7 t8) t9 ≡ builtLines s x
+    pub accepted-lines : tableLines (x .counter) (tablesOf (x .version) (x .alignment) t1 t2 t3 t4 t5 t6 t7 t8) t9 ≡ builtLines s x
     unfolding tableLines builtLines
     accepted-lines = rw (a, b, c, d, e, f, g, h, i)
 
-    pub accepted-refusal : tableRefusal (x .counter) (tablesOf (x .alignment) t1 t2 t3 t4 t5 t6 t7 t8) t9 ≡ builtRefusal s x
+    pub accepted-refusal : tableRefusal (x .counter) (tablesOf (x .version) (x .alignment) t1 t2 t3 t4 t5 t6 t7 t8) t9 ≡ builtRefusal s x
     unfolding tableRefusal builtRefusal
     accepted-refusal = rw (a, b, c, d, e, f, g, h, i)

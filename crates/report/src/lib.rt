@@ -6,7 +6,6 @@ use ray_tracing::BUFFER_SIZE;
 use ray_tracing::Built;
 use ray_tracing::DECLARED_SIZE;
 use ray_tracing::ENTRY_SIZE;
-use ray_tracing::GEOMETRY_SIZE;
 use ray_tracing::PACKAGE_SIZE;
 use ray_tracing::Reported;
 use ray_tracing::SLOT_SIZE;
@@ -15,6 +14,8 @@ use ray_tracing::Sheet;
 use ray_tracing::SheetError;
 use ray_tracing::SheetRead;
 use ray_tracing::TLAS_SIZE;
+use ray_tracing::Version;
+use ray_tracing::geometry_size;
 use report_plan::put_build_line;
 use report_plan::put_plan;
 use report_submit::Printed;
@@ -152,6 +153,7 @@ fn put_answer(
 
 // Builds the tables, with as much room as any sheet can need.
 fn put_built(
+    version: Version,
     alignment: u32,
     counter: u64,
     buffers: &[u8],
@@ -169,14 +171,14 @@ fn put_built(
     requires { ⌜ longestReport ≤ length (now out) ⌝ }
     ensures { λ r. ⌜ Put (now (out .entry)) 0
         (tableLines counter
-        (tablesOf alignment (now (buffers .entry)) (now (blases .entry)) (now (declared .entry)) (now (tlases .entry))
-        (now (entries .entry)) (now (geometries .entry)) (now (packages .entry)) (now (slots .entry)))
+        (tablesOf version alignment (now (buffers .entry)) (now (blases .entry)) (now (declared .entry))
+        (now (tlases .entry)) (now (entries .entry)) (now (geometries .entry)) (now (packages .entry)) (now (slots .entry)))
         (now (actions .entry)))
         (r .end) (now (out .exit)) ⌝ }
     ensures { λ r. ⌜ Refuses (r .refusal)
         (tableRefusal counter
-        (tablesOf alignment (now (buffers .entry)) (now (blases .entry)) (now (declared .entry)) (now (tlases .entry))
-        (now (entries .entry)) (now (geometries .entry)) (now (packages .entry)) (now (slots .entry)))
+        (tablesOf version alignment (now (buffers .entry)) (now (blases .entry)) (now (declared .entry))
+        (now (tlases .entry)) (now (entries .entry)) (now (geometries .entry)) (now (packages .entry)) (now (slots .entry)))
         (now (actions .entry))) ⌝ }
 {
     let mut blas_offsets = [0u64; 64];
@@ -187,6 +189,7 @@ fn put_built(
     let mut compactable = [0u16; 64];
     let mut lists = [0u16; 640];
     let built = build_acceleration_structures(
+        version,
         alignment,
         buffers,
         blases,
@@ -236,16 +239,18 @@ fn put_accepted(sheet: &[u8], x: Sheet, out: &mut [u8]) -> Printed
     ensures { λ r. ⌜ Put (now (out .entry)) 0 (builtLines (now (sheet .entry)) x) (r .end) (now (out .exit)) ⌝ }
     ensures { λ r. ⌜ Refuses (r .refusal) (builtRefusal (now (sheet .entry)) x) ⌝ }
 {
+    let version = x.version;
     let buffers = part(sheet, x.buffers, BUFFER_SIZE);
     let blases = part(sheet, x.blases, BLAS_SIZE);
     let declared = part(sheet, x.declared, DECLARED_SIZE);
     let tlases = part(sheet, x.tlases, TLAS_SIZE);
     let entries = part(sheet, x.entries, ENTRY_SIZE);
-    let geometries = part(sheet, x.geometries, GEOMETRY_SIZE);
+    let geometries = part(sheet, x.geometries, geometry_size(version));
     let packages = part(sheet, x.packages, PACKAGE_SIZE);
     let slots = part(sheet, x.slots, SLOT_SIZE);
     let actions = part(sheet, x.actions, ACTION_SIZE);
     put_built(
+        version,
         x.alignment,
         x.counter,
         buffers,

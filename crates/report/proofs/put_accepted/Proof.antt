@@ -1,12 +1,14 @@
 -- `report::put_accepted` meets its contract: each part is its section of the sheet.
 use Prim.Native.Nat.{ℕ, _+_, _*_, _≤_, _<_}
-use mathlib.Core.Path.{_≡_, refl, _∙_}
+use native.Mathlib.Omega.{arith}
+use mathlib.Core.Path.{_≡_, refl, ap, _∙_}
 use lib.Dec.{lit<}
 use lib.ListN.{length, take, drop}
 use Rattle.ray_tracing.specs.declared.Section.{Section}
 use Rattle.ray_tracing.specs.declared.Sheet.{Sheet}
-use Rattle.ray_tracing.specs.Layout.{size}
+use Rattle.ray_tracing.specs.Layout.{sizeIn}
 use Rattle.ray_tracing.specs.Reading.{sectionOf, sheetOf, table}
+use Rattle.ray_tracing.proofs.Versions.{geometry-size, offset-width}
 use Rattle.report.proofs.Sections.{part-inside, part-is, parts-lendable, accepted-lines, accepted-refusal}
 use borrow.Author.Needs.{needs}
 use Rattle.report.proofs.put_accepted.Statement.{statement}
@@ -14,10 +16,10 @@ use Rattle.report.proofs.put_accepted.Tie as tie
 
 -- the section after section k, as the sheet's field f tells it
 module _ (c : tie.Start) (k : ℕ) (h : k < 9) (f : Sheet → Section) (g : f (sheetOf (c .args .sheet .now)) ≡ sectionOf (c .args .sheet .now) k) where
-  there : f (c .args .x) .start + f (c .args .x) .count * size (k + 1) ≤ length (c .args .sheet .now)
+  there : f (c .args .x) .start + f (c .args .x) .count * sizeIn (c .args .x .version) (k + 1) ≤ length (c .args .sheet .now)
   there = part-inside (c .args .sheet .now) (c .args .x) (c .pre .0) k h f g
 
-  same : take (f (c .args .x) .count * size (k + 1)) (drop (f (c .args .x) .start) (c .args .sheet .now)) ≡ table (c .args .sheet .now) (k + 1)
+  same : take (f (c .args .x) .count * sizeIn (c .args .x .version) (k + 1)) (drop (f (c .args .x) .start) (c .args .sheet .now)) ≡ table (c .args .sheet .now) (k + 1)
   same = part-is (c .args .sheet .now) (c .args .x) (c .pre .0) k h f g
 
 part-requires : tie.Need-part-requires
@@ -36,16 +38,21 @@ part-requires-5 : tie.Need-part-requires-5
 part-requires-5 c κs = (search needs, there (c .before .before .before .before .before .before) 4 (lit< tt) (λ (x : Sheet). x .entries) refl)
 
 part-requires-6 : tie.Need-part-requires-6
-part-requires-6 c κs = (search needs, there (c .before .before .before .before .before .before .before) 5 (lit< tt) (λ (x : Sheet). x .geometries) refl)
+part-requires-6 c κs =
+    let start = c .before .before .before .before .before .before .before .before in
+    let version = start .args .x .version in (
+      omega (arith, c .geometry-size .ensures, geometry-size version, offset-width version),
+      rw (c .geometry-size .ensures) (there start 5 (lit< tt) (λ (x : Sheet). x .geometries) refl),
+    )
 
 part-requires-7 : tie.Need-part-requires-7
-part-requires-7 c κs = (search needs, there (c .before .before .before .before .before .before .before .before) 6 (lit< tt) (λ (x : Sheet). x .packages) refl)
+part-requires-7 c κs = (search needs, there (c .before .before .before .before .before .before .before .before .before) 6 (lit< tt) (λ (x : Sheet). x .packages) refl)
 
 part-requires-8 : tie.Need-part-requires-8
-part-requires-8 c κs = (search needs, there (c .before .before .before .before .before .before .before .before .before) 7 (lit< tt) (λ (x : Sheet). x .slots) refl)
+part-requires-8 c κs = (search needs, there (c .before .before .before .before .before .before .before .before .before .before) 7 (lit< tt) (λ (x : Sheet). x .slots) refl)
 
 part-requires-9 : tie.Need-part-requires-9
-part-requires-9 c κs = (search needs, there (c .before .before .before .before .before .before .before .before .before .before) 8 (lit< tt) (λ (x : Sheet). x .actions) refl)
+part-requires-9 c κs = (search needs, there (c .before .before .before .before .before .before .before .before .before .before .before) 8 (lit< tt) (λ (x : Sheet). x .actions) refl)
 
 put-built-requires : tie.Need-put-built-requires
 put-built-requires c κs =
@@ -53,7 +60,8 @@ put-built-requires c κs =
     let p8 = p9 .before in
     let p7 = p8 .before in
     let p6 = p7 .before in
-    let p5 = p6 .before in
+    let each = p6 .before in
+    let p5 = each .before in
     let p4 = p5 .before in
     let p3 = p4 .before in
     let p2 = p3 .before in
@@ -74,7 +82,8 @@ returns c =
     let p8 = p9 .before in
     let p7 = p8 .before in
     let p6 = p7 .before in
-    let p5 = p6 .before in
+    let each = p6 .before in
+    let p5 = each .before in
     let p4 = p5 .before in
     let p3 = p4 .before in
     let p2 = p3 .before in
@@ -85,7 +94,8 @@ returns c =
     let t3 = p3 .part3 .ensures ∙ same start 2 (lit< tt) (λ (x : Sheet). x .declared) refl in
     let t4 = p4 .part4 .ensures ∙ same start 3 (lit< tt) (λ (x : Sheet). x .tlases) refl in
     let t5 = p5 .part5 .ensures ∙ same start 4 (lit< tt) (λ (x : Sheet). x .entries) refl in
-    let t6 = p6 .part6 .ensures ∙ same start 5 (lit< tt) (λ (x : Sheet). x .geometries) refl in
+    let sized = ap (λ (n : ℕ). take (start .args .x .geometries .count * n) (drop (start .args .x .geometries .start) (start .args .sheet .now))) (each .geometry-size .ensures) in
+    let t6 = p6 .part6 .ensures ∙ sized ∙ same start 5 (lit< tt) (λ (x : Sheet). x .geometries) refl in
     let t7 = p7 .part7 .ensures ∙ same start 6 (lit< tt) (λ (x : Sheet). x .packages) refl in
     let t8 = p8 .part8 .ensures ∙ same start 7 (lit< tt) (λ (x : Sheet). x .slots) refl in
     let t9 = p9 .part9 .ensures ∙ same start 8 (lit< tt) (λ (x : Sheet). x .actions) refl in
@@ -103,6 +113,7 @@ put-accepted-spec =
     part-requires-3
     part-requires-4
     part-requires-5
+    (λ c κs. search needs)
     part-requires-6
     part-requires-7
     part-requires-8
