@@ -106,7 +106,10 @@ fn judge(
     );
     match judged {
         Judgement::Refused(error, e, f) => Built::Refused(error, e, f),
-        Judgement::Nothing => nothing_if(count_ranges(version, entries, geometries), lent.init_ranges),
+        Judgement::Nothing => nothing_if(
+            count_ranges(version, entries, geometries),
+            lent.init_ranges,
+        ),
         Judgement::ToRecord(size) => recorded_if(
             size,
             counts(version, blases, entries, geometries, packages, slots),
