@@ -4,6 +4,7 @@ use native.Mathlib.Omega.{arith}
 use mathlib.Core.Path.{_≡_, refl, sym, ap, _∙_}
 use lib.ListN.{length, length-take}
 use lib.Seq.{sets, length-sets}
+use Rattle.wire.specs.Wire.{leAt, leBytes}
 use Rattle.ray_tracing.specs.Reading.{versionIn, past, from}
 use Rattle.ray_tracing.specs.Canonical.{sectionBytes, canonicalTables}
 use Rattle.ray_tracing.proofs.Instances.{Below}
@@ -30,6 +31,10 @@ u8-at-requires c κs = omega (arith, there (c .before .before))
 
 version-in-requires : tie.Need-version-in-requires Inv-loop μ-loop
 version-in-requires c κs = omega (arith, there (c .before .before .before))
+
+-- the version byte is that of the sheet
+version : (c : tie.After-put-u8 Inv-loop μ-loop) → c .put-u8 .last .0 ≡ sets (c .before .before .before .before .before .before .before .args .out .now) 0 (leBytes 1 (leAt 1 (c .before .before .before .before .before .before .before .args .sheet .now) 0))
+version c = rw (← c .before .before .before .before .u8-at .ensures) (c .put-u8 .ensures)
 
 size-of-requires : tie.Need-size-of-requires Inv-loop μ-loop
 size-of-requires c κs = omega arith
@@ -116,8 +121,7 @@ returns c =
     let nine : c .before .loop .k ≡ 9 = omega (arith, inv .0 .0, c .loop-test .left) in
     let b : Below s = λ i. c .before .before .before .before .before .before .before .before .before .before .before .before .before .before .shared-slice-known .given i .fits in
     let z : 1 + c .before .before .before .before .before .before .before .before .before .before .before .size-of .result - 1 ≡ 12 = omega (arith, c .before .before .before .before .before .before .before .before .before .before .before .size-of .ensures) in
-    let version = rw (c .before .before .before .before .before .before .before .before .before .before .before .before .before .u8-at .ensures) at (c .before .before .before .before .before .before .before .before .before .put-u8 .ensures) in
-    sheet-made s f b _ _ _ (header-put s f b _ _ _ version (rw z at (c .before .before .before .before .put-bytes .ensures))) (rw nine at (inv .1 .1))
+    sheet-made s f b _ _ _ (header-put s f b _ _ _ (version (c .before .before .before .before .before .before .before .before .before)) (rw z at (c .before .before .before .before .put-bytes .ensures))) (rw nine at (inv .1 .1))
 
 pub write-accepted-spec : {M : Type 1} → statement M
 write-accepted-spec =
