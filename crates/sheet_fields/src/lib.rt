@@ -18,7 +18,7 @@ ghost use Prim.Native.Nat.{ℕ, _+_, _-_, _*_, _/_, _%_, _≤_, _<_};
 ghost use mathlib.Core.List.{List};
 ghost use lib.ListN.{length, getD};
 ghost use Rattle.wire.specs.Wire.{leAt};
-ghost use Rattle.ray_tracing.specs.Layout.{layoutIn, offsetWidth};
+ghost use Rattle.ray_tracing.specs.Layout.{layoutIn, sizeIn, offsetWidth};
 ghost use Rattle.ray_tracing.specs.Reading.{begin, judgeFields, judgeRecords};
 ghost use Rattle.ray_tracing.specs.Code.{judgedOf};
 ghost use Rattle.sheet_fields.specs.Table.{firsts, ruled, seen, judgeViews, ruleOf, fieldsFrom, isWidth, Widths};
@@ -243,12 +243,16 @@ fn judge_by_table(
     s: &[u8],
     at: usize,
     section: usize,
+    size: usize,
     before: &[u8],
     each: usize,
     count: usize,
     boxes: bool,
 ) -> Judged
-    requires { ⌜ ((at ≤ length (now s)) × (section < 10)) × (count ≡ length (now before) / each) ⌝ }
+    requires { ⌜
+        ((at ≤ length (now s)) × (section < 10))
+        × ((size ≡ sizeIn version section) × (count ≡ length (now before) / each))
+        ⌝ }
     ensures { λ r. ⌜
         judgedOf r ≡ judgeFields (begin each (now (before .entry)) boxes) (now (s .entry)) at (layoutIn version section .fields)
         ⌝ }
@@ -258,34 +262,36 @@ fn judge_by_table(
     let first = first_of(section);
     let end = first_of(section + 1);
     let ruled = ruled_of(section);
-    let size = size_of(version, section);
     let stop = pick(size <= s.len() - at, ruled, end);
     judge_fields(s, at, &fields, first, stop, before, each, count, boxes)
 }
 
-// One record: nearly every one is whole and fits.
+// One record of `size` bytes: nearly every one is whole and fits.
 fn judge_record(
     version: Version,
     s: &[u8],
     at: usize,
     section: usize,
+    size: usize,
     before: &[u8],
     each: usize,
     count: usize,
     boxes: bool,
 ) -> Judged
-    requires { ⌜ ((at ≤ length (now s)) × (section < 10)) × (count ≡ length (now before) / each) ⌝ }
+    requires { ⌜
+        ((at ≤ length (now s)) × (section < 10))
+        × ((size ≡ sizeIn version section) × (count ≡ length (now before) / each))
+        ⌝ }
     ensures { λ r. ⌜
         judgedOf r ≡ judgeFields (begin each (now (before .entry)) boxes) (now (s .entry)) at (layoutIn version section .fields)
         ⌝ }
 {
-    let size = size_of(version, section);
     if size <= s.len() - at {
         if record_fits(version, s, at, section, before, each, count, boxes) {
             return Judged::Fine;
         }
     }
-    judge_by_table(version, s, at, section, before, each, count, boxes)
+    judge_by_table(version, s, at, section, size, before, each, count, boxes)
 }
 
 // n records of a section, from a place on.
@@ -309,7 +315,7 @@ pub fn judge_records(
     let mut p = at;
     let mut left = n;
     while 0 < left {
-        let judged = judge_record(version, s, p, section, before, each, count, boxes);
+        let judged = judge_record(version, s, p, section, size, before, each, count, boxes);
         let Judged::Fine = judged else {
             return judged;
         };

@@ -20,7 +20,7 @@ abbrev μ-loop : tie.MeasureT-loop
 μ-loop version s at n section before each boxes size count p₀ left₀ p left = left
 
 judge-record-requires : tie.Need-judge-record-requires Inv-loop μ-loop
-judge-record-requires c κs = ((c .before .loop .inv .0, search needs), c .before .before .records-in .ensures)
+judge-record-requires c κs = ((c .before .loop .inv .0, search needs), (c .before .before .before .size-of .ensures, c .before .before .records-in .ensures))
 
 returns : tie.Need-returns Inv-loop μ-loop
 returns c =
