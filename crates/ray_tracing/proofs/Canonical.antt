@@ -120,7 +120,7 @@ unfolding recordMeaning
 header-of s =
     rw (le-drop 4 1 s 0, le-drop 8 4 (drop 1 s) 0, le-drop 8 1 s 4)
 
-below-table : (s : List ℕ) (k : ℕ) → Below s → Below (table s k)
+pub below-table : (s : List ℕ) (k : ℕ) → Below s → Below (table s k)
 below-table s k b = below-take (past s k - from s k) (drop (from s k) s) (below-drop (from s k) s b)
 
 -- ---- an accepted sheet
@@ -277,7 +277,7 @@ module _ (s : List ℕ) (x : Sheet) (e : readSheet s ≡ accepted x) where
 
 -- ---- two of them
 
-sections-cong :
+pub sections-cong :
     (v : Version) (T U : ℕ → List ℕ)
     → ((k : ℕ) → k < 9 → T (k + 1) ≡ U (k + 1))
     → (n k : ℕ)
@@ -287,12 +287,12 @@ unfolding sectionBytes
 sections-cong v T U e zero k h = refl
 sections-cong v T U e (suc n) k h = rw (e k (omega arith), sections-cong v T U e n (k + 1) (omega arith))
 
-module _ (s t : List ℕ) (x y : Sheet) (e : readSheet s ≡ accepted x) (f : readSheet t ≡ accepted y) (b : Below s) (c : Below t) where
-  -- "two sheets of different versions never count as meaning the same"
-  versions-equal : meaning s ≡ meaning t → versionIn s ≡ versionIn t
-  unfolding meaning versionIn
-  versions-equal m = ap (λ (z : Meaning). cond (eqb (z .version) 2) version.Two version.One) m
+-- "two sheets of different versions never count as meaning the same"
+pub means-version : (s t : List ℕ) → meaning s ≡ meaning t → versionIn s ≡ versionIn t
+unfolding meaning versionIn
+means-version s t m = ap (λ (z : Meaning). cond (eqb (z .version) 2) version.Two version.One) m
 
+module _ (s t : List ℕ) (x y : Sheet) (e : readSheet s ≡ accepted x) (f : readSheet t ≡ accepted y) (b : Below s) (c : Below t) where
   section-equal :
       versionIn s ≡ versionIn t
       → (k : ℕ)
@@ -311,24 +311,24 @@ module _ (s t : List ℕ) (x y : Sheet) (e : readSheet s ≡ accepted x) (f : re
   unfolding meaning
   tables-equal m =
       each (λ (k : ℕ). canonicalTables s (k + 1) ≡ canonicalTables t (k + 1)) 9 (
-        section-equal (versions-equal m) 1 (omega arith) (omega arith) refl (ap (λ (z : Meaning). z .buffers) m),
+        section-equal (means-version s t m) 1 (omega arith) (omega arith) refl (ap (λ (z : Meaning). z .buffers) m),
         (
-          section-equal (versions-equal m) 2 (omega arith) (omega arith) refl (ap (λ (z : Meaning). z .blases) m),
+          section-equal (means-version s t m) 2 (omega arith) (omega arith) refl (ap (λ (z : Meaning). z .blases) m),
           (
             sym (declared-lists-of s x e b)
                 ∙ ap (λ (z : Meaning). flatten (map (bytesOf version.One 3) (z .declared))) m
                 ∙ declared-lists-of t y f c,
             (
-              section-equal (versions-equal m) 4 (omega arith) (omega arith) refl (ap (λ (z : Meaning). z .tlases) m),
+              section-equal (means-version s t m) 4 (omega arith) (omega arith) refl (ap (λ (z : Meaning). z .tlases) m),
               (
-                section-equal (versions-equal m) 5 (omega arith) (omega arith) refl (ap (λ (z : Meaning). z .entries) m),
+                section-equal (means-version s t m) 5 (omega arith) (omega arith) refl (ap (λ (z : Meaning). z .entries) m),
                 (
-                  section-equal (versions-equal m) 6 (omega arith) (omega arith) refl (ap (λ (z : Meaning). z .geometries) m),
+                  section-equal (means-version s t m) 6 (omega arith) (omega arith) refl (ap (λ (z : Meaning). z .geometries) m),
                   (
-                    section-equal (versions-equal m) 7 (omega arith) (omega arith) refl (ap (λ (z : Meaning). z .packages) m),
+                    section-equal (means-version s t m) 7 (omega arith) (omega arith) refl (ap (λ (z : Meaning). z .packages) m),
                     (
-                      section-equal (versions-equal m) 8 (omega arith) (omega arith) refl (ap (λ (z : Meaning). z .slots) m),
-                      (section-equal (versions-equal m) 9 (omega arith) (omega arith) refl (ap (λ (z : Meaning). z .actions) m), tt),
+                      section-equal (means-version s t m) 8 (omega arith) (omega arith) refl (ap (λ (z : Meaning). z .slots) m),
+                      (section-equal (means-version s t m) 9 (omega arith) (omega arith) refl (ap (λ (z : Meaning). z .actions) m), tt),
                     ),
                   ),
                 ),
@@ -364,7 +364,7 @@ module _ (s t : List ℕ) (x y : Sheet) (e : readSheet s ≡ accepted x) (f : re
       forward q = sym (output-means s x e b) ∙ ap meaning q ∙ output-means t y f c
 
       back : meaning s ≡ meaning t → canonical s ≡ canonical t
-      back m = same-bytes (versions-equal m) (header-equal m .0) (header-equal m .1) (tables-equal m)
+      back m = same-bytes (means-version s t m) (header-equal m .0) (header-equal m .1) (tables-equal m)
 
 -- ---- one of them again
 
@@ -380,31 +380,30 @@ module _ (s : List ℕ) (x : Sheet) (e : readSheet s ≡ accepted x) (b : Below 
 
 -- ---- calls
 
+-- a call that wrote refused nothing
+
+pub wrote-not : (n m at : ℕ) → wrote n ≡ unwritten m at → ⊥
+wrote-not n m at q = let z : _≡_ {A = ℕ} 0 1 = cc in omega arith
+
+pub wrote-read : (n : ℕ) (r : Reading) (v : Writing) → wrote n ≡ afterReading r v → (x : Sheet) × ((r ≡ accepted x) × (wrote n ≡ v))
+wrote-read n (accepted x) v q = (x, (refl, q))
+wrote-read n (rejected m at) v q = absurd (wrote-not n m at q)
+
+pub wrote-fits : (n m : ℕ) (t : Bool) → wrote n ≡ cond t (unwritten 39 0) (wrote m) → (t ≡ false) × (n ≡ m)
+wrote-fits n m false q = (refl, cc)
+wrote-fits n m true q = absurd (wrote-not n 39 0 q)
+
+-- and what it wrote stands there
+pub written-back : (text out : List ℕ) → length text ≤ length out → take (length text) (sets out 0 text) ≡ text
+written-back text out l = rw (sets-eq text out 0 (rw zero-add l)) (take-at text (drop (0 + length text) out) (length text) refl)
+
 -- a call that wrote n bytes of out, and left p
 module _ (s out p : List ℕ) (n : ℕ) (w : WritesSheet s out (wrote n) p) (b : Below s) where
-  reading-of :
-      (r : Reading) (v : Writing)
-      → wrote n ≡ afterReading r v
-      → (x : Sheet) × ((r ≡ accepted x) × (wrote n ≡ v))
-  reading-of (accepted x) v q = (x, (refl, q))
-  reading-of (rejected m at) v q = absurd (never q)
-    where
-      never : wrote n ≡ unwritten m at → ⊥
-      never q = let z : _≡_ {A = ℕ} 0 1 = cc in omega arith
-
-  fits :
-      (t : Bool) → wrote n ≡ cond t (unwritten 39 0) (wrote (length (canonical s))) → (t ≡ false) × (n ≡ length (canonical s))
-  fits false q = (refl, cc)
-  fits true q = absurd (never q)
-    where
-      never : wrote n ≡ unwritten 39 0 → ⊥
-      never q = let z : _≡_ {A = ℕ} 0 1 = cc in omega arith
-
   ruled : (x : Sheet) × ((readSheet s ≡ accepted x) × ((length (canonical s) ≤ length out) × (n ≡ length (canonical s))))
   unfolding writeRule
   ruled =
-      let r = reading-of (readSheet s) _ (w .answer) in
-      let f = fits (ltb (length out) (length (canonical s))) (r .1 .1) in
+      let r = wrote-read n (readSheet s) _ (w .answer) in
+      let f = wrote-fits n (length (canonical s)) (ltb (length out) (length (canonical s))) (r .1 .1) in
       (r .0, (r .1 .0, (ltb-false (length out) (length (canonical s)) (f .0), f .1)))
 
   -- what it wrote
@@ -412,13 +411,17 @@ module _ (s out p : List ℕ) (n : ℕ) (w : WritesSheet s out (wrote n) p) (b :
   writes-canonical =
       let l = ruled .1 .1 .0 in
       let e : p ≡ sets out 0 (canonical s) = w .left ∙ ap (λ (v : Writing). writingLeaves v (canonical s) out) (sym (w .answer)) in
-      rw (e, ruled .1 .1 .1, sets-eq (canonical s) out 0 (rw zero-add l)) (take-at (canonical s) (drop (0 + length (canonical s)) out) (length (canonical s)) refl)
+      rw (e, ruled .1 .1 .1) (written-back (canonical s) out l)
 
   -- "Reading its output gives the same meaning"
   pub writes-faithfully : (readSheet (take n p) ≡ readSheet s) × (meaning (take n p) ≡ meaning s)
   writes-faithfully =
       rw writes-canonical
       (output-read s (ruled .0) (ruled .1 .0) b ∙ sym (ruled .1 .0), output-means s (ruled .0) (ruled .1 .0) b)
+
+  -- "The writer of slip 1 writes the version that it read"
+  pub writes-version : versionIn (take n p) ≡ versionIn s
+  writes-version = rw writes-canonical (version-same s (ruled .0) (ruled .1 .0) b)
 
 -- what a call wrote, written again, is itself
 pub writes-again :

@@ -239,26 +239,35 @@ module _ (fs : List Field) where
     remade-means (x ∷ xs) a =
         rw (means-kept fs (x .seen) (x .seen) (x .bytes) (fine-whole fs x (a .0)) (alike (x .seen)), remade-means xs (a .1))
 
--- the geometries that entries draw
+-- the geometries that entries draw, of which g makes some of another version, whose size they have
+pub cut-drawn-at :
+    (v w : Version) (t : List ℕ) (g : Held → List ℕ) (n q : ℕ) (s rest : List ℕ)
+    → All (λ x. length (g x) ≡ sizeIn w 6) (drawnFrom v t q s n)
+    → drawnFrom w t q (flatten (map g (drawnFrom v t q s n)) ++ rest) n
+    ≡ map (λ x. record { seen = x .seen; bytes = g x }) (drawnFrom v t q s n)
+unfolding drawnFrom
+cut-drawn-at v w t g zero q s rest a = refl
+cut-drawn-at v w t g (suc n) q s rest a =
+    let c = begin (size 5) t (ofBoxes t q) in
+    let xs = recordsFrom c (sizeIn v 6) s (drawnCount t q) in
+    let ys = drawnFrom v t (q + size 5) (drop (drawnCount t q * sizeIn v 6) s) n in
+    let f : List Held → List ℕ = λ l. flatten (map g l) in
+    let made : List Held → List Held = map (λ x. record { seen = x .seen; bytes = g x }) in
+    let a₁ = all-left (λ x. length (g x) ≡ sizeIn w 6) xs ys a in
+    let m : length xs ≡ drawnCount t q = records-count (geometryFields v) c (drawnCount t q) s in
+    let e : f (xs ++ ys) ++ rest ≡ f xs ++ (f ys ++ rest) = rw (flatten-map g xs ys) (append-assoc (f xs) (f ys) rest) in
+    let l : length (f xs) ≡ drawnCount t q * sizeIn w 6 = flat-length (sizeIn w 6) g xs a₁ ∙ ap (λ (k : ℕ). k * sizeIn w 6) m in
+    let r : recordsFrom c (sizeIn w 6) (f xs ++ (f ys ++ rest)) (drawnCount t q) ≡ made xs =
+    subst (λ (k : ℕ). recordsFrom c (sizeIn w 6) (f xs ++ (f ys ++ rest)) k ≡ made xs) m
+    (cut-at (sizeIn w 6) g c xs (f ys ++ rest) (records-seen (geometryFields v) c (drawnCount t q) s) a₁) in
+    rw (e, r, drop-at (f xs) (f ys ++ rest) (drawnCount t q * sizeIn w 6) l, cut-drawn-at v w t g n (q + size 5) (drop (drawnCount t q * sizeIn v 6) s) rest (all-right (λ x. length (g x) ≡ sizeIn w 6) xs ys a))
+    (sym (map-append (λ x. record { seen = x .seen; bytes = g x }) xs ys))
+
+-- made canonical
 pub cut-drawn :
     (v : Version) (t : List ℕ) (n q : ℕ) (s rest : List ℕ)
     → All (Fine (geometryFields v)) (drawnFrom v t q s n)
     → drawnFrom v t q (flatten (map (bytesIn (geometryFields v)) (drawnFrom v t q s n)) ++ rest) n
     ≡ map (remade (geometryFields v)) (drawnFrom v t q s n)
-unfolding drawnFrom
-cut-drawn v t zero q s rest a = refl
-cut-drawn v t (suc n) q s rest a =
-    let c = begin (size 5) t (ofBoxes t q) in
-    let xs = recordsFrom c (sizeIn v 6) s (drawnCount t q) in
-    let ys = drawnFrom v t (q + size 5) (drop (drawnCount t q * sizeIn v 6) s) n in
-    let f : List Held → List ℕ = λ l. flatten (map (bytesIn (geometryFields v)) l) in
-    let a₁ = all-left (Fine (geometryFields v)) xs ys a in
-    let m : length xs ≡ drawnCount t q = records-count (geometryFields v) c (drawnCount t q) s in
-    let e : f (xs ++ ys) ++ rest ≡ f xs ++ (f ys ++ rest) =
-    rw (flatten-map (bytesIn (geometryFields v)) xs ys) (append-assoc (f xs) (f ys) rest) in
-    let l : length (f xs) ≡ drawnCount t q * sizeIn v 6 = bytes-length (geometryFields v) xs a₁ ∙ ap (λ (k : ℕ). k * sizeIn v 6) m in
-    let r : recordsFrom c (sizeIn v 6) (f xs ++ (f ys ++ rest)) (drawnCount t q) ≡ map (remade (geometryFields v)) xs =
-    subst (λ (k : ℕ). recordsFrom c (sizeIn v 6) (f xs ++ (f ys ++ rest)) k ≡ map (remade (geometryFields v)) xs) m
-    (cut (geometryFields v) c xs (f ys ++ rest) (records-seen (geometryFields v) c (drawnCount t q) s) a₁) in
-    rw (e, r, drop-at (f xs) (f ys ++ rest) (drawnCount t q * sizeIn v 6) l, cut-drawn v t n (q + size 5) (drop (drawnCount t q * sizeIn v 6) s) rest (all-right (Fine (geometryFields v)) xs ys a))
-    (sym (map-append (remade (geometryFields v)) xs ys))
+cut-drawn v t n q s rest a =
+    cut-drawn-at v v t (bytesIn (geometryFields v)) n q s rest (whole-bytes (geometryFields v) (drawnFrom v t q s n) a)

@@ -16,6 +16,10 @@ pub mod ByBlas
 pub mod CanonicalTable
 pub mod TableMeaning
 pub mod Canonical
+pub mod SameGeometries
+pub mod Converted
+pub mod ConvertedSheet
+pub mod Conversion
 pub mod Tables
 pub mod Firsts
 pub mod Judging

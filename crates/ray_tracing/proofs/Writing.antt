@@ -3,10 +3,10 @@ use Prim.Native.Nat.{ℕ, zero, suc, _+_, _-_, _*_, _^_, _≤_, _<_}
 use native.Mathlib.Nat.{add-zero, div-add-mod'}
 use native.Mathlib.Numerals.{add-one}
 use native.Mathlib.Omega.{arith}
-use mathlib.Core.Bool.{true, false, cond}
+use mathlib.Core.Bool.{true, false}
 use mathlib.Core.Path.{_≡_, refl, sym, ap, _∙_}
 use mathlib.Core.List.{List, [], _++_, append-assoc}
-use lib.Dec.{eqb, ltb, lit<}
+use lib.Dec.{ltb, lit<}
 use lib.ListN.{length, drop, length-append, length-drop}
 use lib.Seq.{drop-drop, drop-at, take-append-seam}
 use borrow.Author.Tests.{le-ltb, lt-ltb, ltb-true}
@@ -19,6 +19,7 @@ use Rattle.ray_tracing.specs.Reading.{fine, judgeFields, judgeRecords, b
 use Rattle.ray_tracing.specs.Canonical.{countOf, sectionBytes, headerBytes, sheetBytes}
 use Rattle.ray_tracing.specs.Writing.{endOf, sectionWith, sheetWith}
 use Rattle.ray_tracing.proofs.Each.{each}
+use Rattle.ray_tracing.proofs.Versions.{version-known}
 use Rattle.ray_tracing.proofs.Reading.{past-more}
 use Rattle.ray_tracing.proofs.Sheets.{Lent, lent-tells, lent-apart, lent-section, table-section}
 
@@ -56,22 +57,17 @@ module _ (v : Version) (alignment counter : ℕ) (tables : ℕ → List ℕ) whe
   bytes = sheetBytes v alignment counter tables
 
   -- section k is written and read alike
-  record Written (k : ℕ) : Type 0 where
-    ends : past bytes k ≡ endOf tables k
-    rest : drop (endOf tables k) bytes ≡ sectionBytes v tables k (9 - k)
-    near : endOf tables k ≤ length bytes
+  pub record Written (k : ℕ) : Type 0 where
+    pub ends : past bytes k ≡ endOf tables k
+    pub rest : drop (endOf tables k) bytes ≡ sectionBytes v tables k (9 - k)
+    pub near : endOf tables k ≤ length bytes
 
   version-read : leAt 1 bytes 0 ≡ versionNumber v
   unfolding leAt sheetBytes
   version-read = omega arith
 
-  version-is : versionIn bytes ≡ v
-  unfolding versionIn
-  version-is = rw version-read (by v)
-    where
-      by : (v : Version) → cond (eqb (versionNumber v) 2) version.Two version.One ≡ v
-      by version.One = refl
-      by version.Two = refl
+  pub version-is : versionIn bytes ≡ v
+  version-is = version-known bytes v version-read
 
   header-length : length (headerBytes v alignment counter) ≡ 13
   header-length = rw length-append (omega (arith, length-leBytes 4 alignment, length-leBytes 8 counter))
@@ -135,7 +131,7 @@ module _ (v : Version) (alignment counter : ℕ) (tables : ℕ → List ℕ) whe
             near = rw end-more (omega (arith, whole-length bytes (tables (k + 1)) after (countOf v tables (k + 1)) (endOf tables k) here (w .near)));
           }
 
-    written-all : (k : ℕ) → k ≤ 9 → Written k
+    pub written-all : (k : ℕ) → k ≤ 9 → Written k
     written-all zero h = written
     written-all (suc k) h = rw add-one at (written-more k (omega arith) (written-all k (omega arith)))
 
@@ -182,12 +178,12 @@ module _ (v : Version) (alignment counter : ℕ) (tables : ℕ → List ℕ) whe
           by version.One = refl
           by version.Two = refl
 
-      alignment-read : leAt 4 bytes 1 ≡ alignment
+      pub alignment-read : leAt 4 bytes 1 ≡ alignment
       unfolding sheetBytes
       alignment-read =
           sym (le-drop 4 1 bytes 0) ∙ rw append-assoc (le-of-bytes 4 alignment (leBytes 8 counter ++ sectionBytes v tables 0 9) fits)
 
-      counter-read : leAt 8 bytes 5 ≡ counter
+      pub counter-read : leAt 8 bytes 5 ≡ counter
       unfolding sheetBytes leBytes
       counter-read = sym (le-drop 8 5 bytes 0) ∙ le-of-bytes 8 counter (sectionBytes v tables 0 9) counted
 

@@ -131,7 +131,7 @@ no-byte zero i = refl
 no-byte (suc n) zero = refl
 no-byte (suc n) (suc i) = no-byte n i
 
-le-zero : (w : ℕ) (s : List ℕ) (at : ℕ) → ((i : ℕ) → getD s i 0 ≡ 0) → leAt w s at ≡ 0
+pub le-zero : (w : ℕ) (s : List ℕ) (at : ℕ) → ((i : ℕ) → getD s i 0 ≡ 0) → leAt w s at ≡ 0
 unfolding leAt
 le-zero zero s at h = refl
 le-zero (suc w) s at h = rw (h at, le-zero w s (at + 1) h)
@@ -189,7 +189,7 @@ means-kept (f ∷ fs) c d r h a =
 rest-window : (w : ℕ) (r : List ℕ) → w ≤ length r → Window w (drop w r) r
 rest-window w r h = record { inside = rw length-drop (omega arith); same = λ i k. sym (getD-drop w r i 0) }
 
-rest-judged :
+pub rest-judged :
     (fs : List Field) (c : Seen) (w : ℕ) (r : List ℕ)
     → w + total fs ≤ length r
     → judgeFields c r w fs ≡ moved w (judgeFields c (drop w r) 0 fs)

@@ -134,7 +134,7 @@ pub fn entry_at(table: &[u8], at: usize) -> BlasBuildEntry
 }
 
 // The bytes of a geometry's offset.
-fn offset_width(version: Version) -> usize
+pub fn offset_width(version: Version) -> usize
     ensures { λ r. ⌜ r ≡ offsetWidth version ⌝ }
 {
     match version {
@@ -144,7 +144,7 @@ fn offset_width(version: Version) -> usize
 }
 
 // A first vertex or primitive offset.
-fn offset_at(version: Version, table: &[u8], at: usize) -> u64
+pub fn offset_at(version: Version, table: &[u8], at: usize) -> u64
     requires { ⌜ at + offsetWidth version ≤ length (now table) ⌝ }
     ensures { λ r. ⌜ r ≡ leAt (offsetWidth version) (now (table .entry)) at ⌝ }
 {
