@@ -3,6 +3,7 @@ use build::build_acceleration_structures;
 use capi_answers::append_answer;
 use capi_answers::append_many_answer;
 use capi_answers::build_answer;
+use capi_answers::convert_answer;
 use capi_answers::open_answer;
 use capi_answers::report_answer;
 use capi_answers::sheet_answer;
@@ -21,16 +22,21 @@ use ray_tracing::ReportAnswer;
 use ray_tracing::SheetAnswer;
 use ray_tracing::TlasId;
 use ray_tracing::Validated;
+use ray_tracing::Version;
 use ray_tracing::WriteAnswer;
 use report::report;
 use report_words::Refusal;
 use report_words::words;
 use sheet::read_sheet;
+use sheet_convert::to_version_1;
+use sheet_convert::to_version_2;
 use sheet_write::write_sheet;
 use submit::validate_acceleration_structure_actions;
 ghost use mathlib.Core.Path.{_≡_};
+ghost use Rattle.ray_tracing.specs.declared.Version.the-variants as version;
 ghost use Rattle.ray_tracing.specs.Reading.{readSheet};
 ghost use Rattle.ray_tracing.specs.Canonical.{WritesSheetAs};
+ghost use Rattle.ray_tracing.specs.Conversion.{ConvertsAs};
 ghost use Rattle.ray_tracing.specs.Groups.{OpensGroupsAs};
 ghost use Rattle.ray_tracing.specs.Plan.{tablesOf, outputsOf, BuildsAs};
 ghost use Rattle.ray_tracing.specs.Instances.{instanceFrom, AppendsAs};
@@ -53,6 +59,20 @@ pub extern "C" fn zakvind_write_sheet(sheet: &[u8], out: &mut [u8]) -> WriteAnsw
     ensures { λ r. ⌜ WritesSheetAs writeAnswer (now (sheet .entry)) (now (out .entry)) r (now (out .exit)) ⌝ }
 {
     write_answer(write_sheet(sheet, out))
+}
+
+#[no_mangle]
+pub extern "C" fn zakvind_to_version_2(sheet: &[u8], out: &mut [u8]) -> WriteAnswer
+    ensures { λ r. ⌜ ConvertsAs writeAnswer version.Two (now (sheet .entry)) (now (out .entry)) r (now (out .exit)) ⌝ }
+{
+    convert_answer(to_version_2(sheet, out))
+}
+
+#[no_mangle]
+pub extern "C" fn zakvind_to_version_1(sheet: &[u8], out: &mut [u8]) -> WriteAnswer
+    ensures { λ r. ⌜ ConvertsAs writeAnswer version.One (now (sheet .entry)) (now (out .entry)) r (now (out .exit)) ⌝ }
+{
+    convert_answer(to_version_1(sheet, out))
 }
 
 #[no_mangle]
@@ -82,7 +102,7 @@ pub extern "C" fn zakvind_build(
     lists: &mut [u16],
 ) -> BuildAnswer
     ensures { λ r. ⌜ BuildsAs builtAnswer
-        (tablesOf alignment (now (buffers .entry)) (now (blases .entry)) (now (declared .entry)) (now (tlases .entry))
+        (tablesOf version.One alignment (now (buffers .entry)) (now (blases .entry)) (now (declared .entry)) (now (tlases .entry))
         (now (entries .entry)) (now (geometries .entry)) (now (packages .entry)) (now (slots .entry)))
         (outputsOf (now («blas_offsets» .entry)) (now («tlas_offsets» .entry)) (now («staging_ranges» .entry))
         (now (instances .entry)) (now («init_ranges» .entry)) (now (compactable .entry)) (now (lists .entry)))
@@ -91,6 +111,57 @@ pub extern "C" fn zakvind_build(
         (now (instances .exit)) (now («init_ranges» .exit)) (now (compactable .exit)) (now (lists .exit))) ⌝ }
 {
     build_answer(build_acceleration_structures(
+        Version::One,
+        alignment,
+        buffers,
+        blases,
+        declared,
+        tlases,
+        entries,
+        geometries,
+        packages,
+        slots,
+        blas_offsets,
+        tlas_offsets,
+        staging_ranges,
+        instances,
+        init_ranges,
+        compactable,
+        lists,
+    ))
+}
+
+// The same for geometries of version 2, 48 bytes each.
+#[no_mangle]
+pub extern "C" fn zakvind_build_wide(
+    alignment: u32,
+    buffers: &[u8],
+    blases: &[u8],
+    declared: &[u8],
+    tlases: &[u8],
+    entries: &[u8],
+    geometries: &[u8],
+    packages: &[u8],
+    slots: &[u8],
+    blas_offsets: &mut [u64],
+    tlas_offsets: &mut [u64],
+    staging_ranges: &mut [u64],
+    instances: &mut [u8],
+    init_ranges: &mut [u64],
+    compactable: &mut [u16],
+    lists: &mut [u16],
+) -> BuildAnswer
+    ensures { λ r. ⌜ BuildsAs builtAnswer
+        (tablesOf version.Two alignment (now (buffers .entry)) (now (blases .entry)) (now (declared .entry)) (now (tlases .entry))
+        (now (entries .entry)) (now (geometries .entry)) (now (packages .entry)) (now (slots .entry)))
+        (outputsOf (now («blas_offsets» .entry)) (now («tlas_offsets» .entry)) (now («staging_ranges» .entry))
+        (now (instances .entry)) (now («init_ranges» .entry)) (now (compactable .entry)) (now (lists .entry)))
+        r
+        (outputsOf (now («blas_offsets» .exit)) (now («tlas_offsets» .exit)) (now («staging_ranges» .exit))
+        (now (instances .exit)) (now («init_ranges» .exit)) (now (compactable .exit)) (now (lists .exit))) ⌝ }
+{
+    build_answer(build_acceleration_structures(
+        Version::Two,
         alignment,
         buffers,
         blases,
@@ -197,7 +268,8 @@ pub extern "C" fn zakvind_explain(sheet: &[u8], out: &mut [u8]) -> ReportAnswer
 
 // The words of a call's refusal: the call is 1 of zakvind_read_sheet (e0 its place), 2 of zakvind_build, 3 of zakvind_submit (e0 its
 // action, e1 the action's kind, 0 where it is not known), 4 of zakvind_append_instance, 5 of zakvind_write_sheet (e0 its place), 6 of
-// zakvind_open_groups (e0 its place, of 45 and 46 e0 its group and e1 its item) or 7 of zakvind_append_instances (e1 its position).
+// zakvind_open_groups (e0 its place, of 45 and 46 e0 its group and e1 its item), 7 of zakvind_append_instances (e1 its position), 8
+// of zakvind_to_version_2 or 9 of zakvind_to_version_1 (e0 its place).
 #[no_mangle]
 pub extern "C" fn zakvind_words(
     call: u64,

@@ -13,14 +13,17 @@ use ray_tracing::ReportAnswer;
 use ray_tracing::Reported;
 use ray_tracing::Sheet;
 use ray_tracing::SheetAnswer;
+use ray_tracing::SheetConverted;
 use ray_tracing::SheetRead;
 use ray_tracing::SheetWritten;
 use ray_tracing::WriteAnswer;
 use ray_tracing::Written;
+use ray_tracing::version_number;
 ghost use mathlib.Core.Path.{_≡_};
 ghost use Rattle.ray_tracing.specs.Causes.{readingOf};
 ghost use Rattle.ray_tracing.specs.Reading.{accepted, rejected};
-ghost use Rattle.ray_tracing.specs.Canonical.{unwritten, writingOf};
+ghost use Rattle.ray_tracing.specs.Canonical.{wrote, unwritten, writingOf};
+ghost use Rattle.ray_tracing.specs.Conversion.{convertingOf};
 ghost use Rattle.ray_tracing.specs.Groups.{unopened, openingOf};
 ghost use Rattle.ray_tracing.specs.Plan.{recorded, nothing-recorded, not-built, buildingOf};
 ghost use Rattle.ray_tracing.specs.Instances.{appendedOf};
@@ -32,10 +35,11 @@ ghost use Rattle.ray_tracing.specs.Answers.{sheetAnswer, writeAnswer, openAnswe
 fn sheet_accepted(x: Sheet) -> SheetAnswer
     ensures { λ r. ⌜ r ≡ sheetAnswer (accepted x) ⌝ }
 {
+    let version = x.version;
     SheetAnswer {
         number: 0,
         place: 0,
-        version: x.version as u64,
+        version: version_number(version) as u64,
         alignment: x.alignment as u64,
         counter: x.counter,
         buffers_start: x.buffers.start as u64,
@@ -108,17 +112,34 @@ fn write_refused(number: u64, place: u64) -> WriteAnswer
     }
 }
 
+fn write_done(written: u64) -> WriteAnswer
+    ensures { λ r. ⌜ r ≡ writeAnswer (wrote written) ⌝ }
+{
+    WriteAnswer {
+        number: 0,
+        place: 0,
+        written,
+    }
+}
+
 pub fn write_answer(written: SheetWritten) -> WriteAnswer
     ensures { λ r. ⌜ r ≡ writeAnswer (writingOf written) ⌝ }
 {
     match written {
-        SheetWritten::Written(n) => WriteAnswer {
-            number: 0,
-            place: 0,
-            written: n as u64,
-        },
+        SheetWritten::Written(n) => write_done(n as u64),
         SheetWritten::Refused(e, place) => write_refused(sheet_number(e), place as u64),
         SheetWritten::TooShort => write_refused(39, 0),
+    }
+}
+
+pub fn convert_answer(converted: SheetConverted) -> WriteAnswer
+    ensures { λ r. ⌜ r ≡ writeAnswer (convertingOf converted) ⌝ }
+{
+    match converted {
+        SheetConverted::Written(n) => write_done(n as u64),
+        SheetConverted::Refused(e, place) => write_refused(sheet_number(e), place as u64),
+        SheetConverted::TooFar(place) => write_refused(47, place as u64),
+        SheetConverted::TooShort => write_refused(39, 0),
     }
 }
 

@@ -1,7 +1,7 @@
 // Ids, the records of lent tables by value, and what the entry points answer. The paper as definitions stands in specs/.
 ghost use mathlib.Core.Path.{_≡_};
 ghost use mathlib.Core.Bool.{_&&_, _||_, cond};
-ghost use Rattle.ray_tracing.specs.Layout.{sizeIn};
+ghost use Rattle.ray_tracing.specs.Layout.{versionNumber, sizeIn};
 ghost use Rattle.ray_tracing.specs.Plan.{_or_};
 ghost use Rattle.ray_tracing.specs.Code.{verdictOf};
 
@@ -491,6 +491,15 @@ pub fn either(a: bool, b: bool) -> bool
     ensures { λ r. ⌜ r ≡ (a || b) ⌝ }
 {
     if a { true } else { b }
+}
+
+pub fn version_number(version: Version) -> u8
+    ensures { λ r. ⌜ r ≡ versionNumber version ⌝ }
+{
+    match version {
+        Version::One => 1,
+        Version::Two => 2,
+    }
 }
 
 // A geometry's size.

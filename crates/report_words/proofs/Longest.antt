@@ -27,6 +27,7 @@ use Rattle.ray_tracing.specs.Explain.{
   actionItems,
   manyItems,
   itemBytes,
+  lineWith,
   refusedLine,
   explanation,
   between,
@@ -156,7 +157,9 @@ words-most call n e f x y z =
     (each-within (eqb call 3) _ _ (explanation-most (of-action e f (cause n x y z)))
     (each-within (eqb call 4) _ _ plain-most
     (each-within (eqb call 5) _ _ sheet-most
-    (each-within (eqb call 6) _ _ (each-within (between 45 46 n) _ _ group-most sheet-most) instance-most))))))
+    (each-within (eqb call 6) _ _ (each-within (between 45 46 n) _ _ group-most sheet-most)
+    (each-within (eqb call 7) _ _ instance-most
+    (each-within (eqb n 1) _ _ version-most (each-within (eqb n 47) _ _ place-line-most sheet-most)))))))))
     (simp length-append (omega (arith, digits-most 20 n))))
   where
     plain-most : length (refusedLine n []) ≤ longestExplanation
@@ -164,6 +167,14 @@ words-most call n e f x y z =
 
     sheet-most : length (cond (between 1 5 n) (explanation (of-sheet n e)) (refusedLine n [])) ≤ longestExplanation
     sheet-most = each-within (between 1 5 n) _ _ (explanation-most (of-sheet n e)) plain-most
+
+    place-line-most : length (refusedLine n ("byte" is e ∷ [])) ≤ longestExplanation
+    place-line-most = simp length-append (omega (arith, digits-most 20 n, cause-most n, items-most ("byte" is e ∷ [])))
+
+    version-most : length (lineWith n (cond (eqb call 8) "version not 1" "version not 2") ("byte" is e ∷ [])) ≤ longestExplanation
+    version-most =
+        let h = word 13 (eqb call 8) "version not 1" "version not 2" (lit≤ tt) (lit≤ tt) in
+        simp length-append (omega (arith, digits-most 20 n, h, items-most ("byte" is e ∷ [])))
 
     group-most : length (refusedLine n ("group" is e ∷ "item" is f ∷ [])) ≤ longestExplanation
     group-most = simp length-append (omega (arith, digits-most 20 n, cause-most n, items-most ("group" is e ∷ "item" is f ∷ [])))

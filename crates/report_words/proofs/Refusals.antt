@@ -1,5 +1,6 @@
 -- Each line, filled, is the words of its refusal: number by number, by computing.
 use Prim.Native.Nat.{ℕ, zero, suc, _+_, _≤_, _<_}
+use Prim.Native.String.{String}
 use native.Mathlib.Omega.{arith}
 use mathlib.Core.Bool.{Bool, true, false, _&&_, _||_, cond}
 use mathlib.Core.Path.{_≡_, refl, sym, _∙_}
@@ -22,10 +23,13 @@ use Rattle.ray_tracing.specs.Explain.{
   actionItems,
   manyItems,
   itemBytes,
+  lineWith,
   refusedLine,
   explanation,
   between,
   refusesWith,
+  writeLine,
+  convertLine,
   callLine,
   noSuchCause,
   wordsOf,
@@ -45,6 +49,8 @@ use Rattle.report_words.specs.Lines.{
   writePlace,
   openPlace,
   manyPlace,
+  toTwoPlace,
+  toOnePlace,
   linePlace,
 }
 
@@ -59,11 +65,17 @@ unfolding itemBytes
 items-then [] t = refl
 items-then (i ∷ l) t = simp append-assoc (rw (items-then l t))
 
+abbrev begunWith : ℕ → String → List Item → List ℕ
+begunWith n words l = ascii "refused " ++ (decimal n ++ (ascii ": " ++ (ascii words ++ itemsThen l (10 ∷ []))))
+
+line-with : (n : ℕ) (words : String) (l : List Item) → begunWith n words l ≡ lineWith n words l
+line-with n words l = sym (simp append-assoc (rw (items-then l (10 ∷ []))))
+
 abbrev begun : ℕ → List Item → List ℕ
-begun n l = ascii "refused " ++ (decimal n ++ (ascii ": " ++ (ascii (causeWords n) ++ itemsThen l (10 ∷ []))))
+begun n l = begunWith n (causeWords n) l
 
 line-is : (n : ℕ) (l : List Item) → begun n l ≡ refusedLine n l
-line-is n l = sym (simp append-assoc (rw (items-then l (10 ∷ []))))
+line-is n l = line-with n (causeWords n) l
 
 -- ---- numbers from a on
 
@@ -385,19 +397,68 @@ module _ (call e f x y z : ℕ) where
       go false h false i true k = rw (eqb-true n 39 k) (append-39 ∙ line-is 39 [])
       go false h false i false k = rw (ne-eqb n 6 (outside 5 6 6 n refl h), i, h, k) (unknown n)
 
+  -- the other version, 47, and what a writer is refused
+
+  two-version : at 1 68 ≡ begunWith 1 "version not 1" ("byte" is e ∷ [])
+  unfolding letter filled pastLines lines digits numberFor
+  two-version = refl
+
+  one-version : at 1 69 ≡ begunWith 1 "version not 2" ("byte" is e ∷ [])
+  unfolding letter filled pastLines lines digits numberFor
+  one-version = refl
+
+  far : at 47 70 ≡ begun 47 ("byte" is e ∷ [])
+  unfolding letter filled pastLines lines digits numberFor
+  far = refl
+
+  to-two : (n : ℕ) → at n (toTwoPlace n) ≡ cond (between 1 5 n || eqb n 39) (convertLine "version not 1" e n) (noSuchCause n)
+  to-two n = go (eqb n 1) refl (eqb n 47) refl
+    where
+      go :
+          (a : Bool)
+          → eqb n 1 ≡ a
+          → (b : Bool)
+          → eqb n 47 ≡ b
+          → at n (cond a 68 (writePlace n))
+          ≡ cond (between 1 5 n || eqb n 39)
+          (cond a (lineWith n "version not 1" ("byte" is e ∷ [])) (cond b (refusedLine n ("byte" is e ∷ [])) (writeLine e n)))
+          (noSuchCause n)
+      go true h b i = rw (eqb-true n 1 h) (two-version ∙ line-with 1 "version not 1" ("byte" is e ∷ []))
+      go false h true i = rw (eqb-true n 47 i) (unknown 47)
+      go false h false i = write n
+
+  to-one :
+      (n : ℕ) → at n (toOnePlace n) ≡ cond (between 1 5 n || (eqb n 39 || eqb n 47)) (convertLine "version not 2" e n) (noSuchCause n)
+  to-one n = go (eqb n 1) refl (eqb n 47) refl
+    where
+      go :
+          (a : Bool)
+          → eqb n 1 ≡ a
+          → (b : Bool)
+          → eqb n 47 ≡ b
+          → at n (cond a 69 (cond b 70 (writePlace n)))
+          ≡ cond (between 1 5 n || (eqb n 39 || b))
+          (cond a (lineWith n "version not 2" ("byte" is e ∷ [])) (cond b (refusedLine n ("byte" is e ∷ [])) (writeLine e n)))
+          (noSuchCause n)
+      go true h b i = rw (eqb-true n 1 h) (one-version ∙ line-with 1 "version not 2" ("byte" is e ∷ []))
+      go false h true i = rw (eqb-true n 47 i) (far ∙ line-is 47 ("byte" is e ∷ []))
+      go false h false i = rw (or-none (eqb n 39)) (write n)
+
   -- ---- the table by call
 
   pub words-are : (n : ℕ) → at n (linePlace call n f x) ≡ wordsOf call n e f x y z
   unfolding wordsOf
-  words-are n = some (eqb n 0) _ _ (each (eqb call 1) (eqb call 2) (eqb call 3) (eqb call 4) (eqb call 5) (eqb call 6) (eqb call 7))
+  words-are n = some (eqb n 0) _ _ (each (eqb call 1) (eqb call 2) (eqb call 3) (eqb call 4) (eqb call 5) (eqb call 6) (eqb call 7) (eqb call 8) (eqb call 9))
     where
       each :
-          (a b c d g h i : Bool)
+          (a b c d g h i j k : Bool)
           → at n
           (cond a (cond (between 1 5 n) (n + 1) 1)
           (cond b (buildPlace n x)
           (cond c (actionPlace n f)
-          (cond d (appendPlace n) (cond g (writePlace n) (cond h (openPlace n) (cond i (manyPlace n f) 1)))))))
+          (cond d (appendPlace n)
+          (cond g (writePlace n)
+          (cond h (openPlace n) (cond i (manyPlace n f) (cond j (toTwoPlace n) (cond k (toOnePlace n) 1)))))))))
           ≡ cond
           (cond a (between 1 5 n)
           (cond b (between 4 6 n || between 10 39 n)
@@ -405,7 +466,8 @@ module _ (call e f x y z : ℕ) where
           (cond d (eqb n 6 || (between 34 35 n || eqb n 39))
           (cond g (between 1 5 n || eqb n 39)
           (cond h (between 2 5 n || (eqb n 39 || between 45 46 n))
-          (cond i (between 5 6 n || (between 34 35 n || eqb n 39)) false)))))))
+          (cond i (between 5 6 n || (between 34 35 n || eqb n 39))
+          (cond j (between 1 5 n || eqb n 39) (cond k (between 1 5 n || (eqb n 39 || eqb n 47)) false)))))))))
           (cond a (explanation (of-sheet n e))
           (cond b (explanation (of-build e f (cause n x y z)))
           (cond c (explanation (of-action e f (cause n x y z)))
@@ -414,16 +476,19 @@ module _ (call e f x y z : ℕ) where
           (cond h
           (cond (between 45 46 n) (refusedLine n ("group" is e ∷ "item" is f ∷ []))
           (cond (between 1 5 n) (explanation (of-sheet n e)) (refusedLine n [])))
-          (refusedLine n (manyItems f n))))))))
+          (cond i (refusedLine n (manyItems f n))
+          (convertLine (cond j "version not 1" "version not 2") e n))))))))
           (noSuchCause n)
-      each true b c d g h i = sheet n
-      each false true c d g h i = build n
-      each false false true d g h i = submit n
-      each false false false true g h i = append n
-      each false false false false true h i = write n
-      each false false false false false true i = opening n
-      each false false false false false false true = many n
-      each false false false false false false false = unknown n
+      each true b c d g h i j k = sheet n
+      each false true c d g h i j k = build n
+      each false false true d g h i j k = submit n
+      each false false false true g h i j k = append n
+      each false false false false true h i j k = write n
+      each false false false false false true i j k = opening n
+      each false false false false false false true j k = many n
+      each false false false false false false false true k = to-two n
+      each false false false false false false false false true = to-one n
+      each false false false false false false false false false = unknown n
 
       some : (b : Bool) (p : ℕ) (t : List ℕ) → at n p ≡ t → at n (cond b 0 p) ≡ cond b (explanation nothing) t
       some true p t h = none n

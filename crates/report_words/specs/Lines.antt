@@ -1,5 +1,6 @@
 -- The lines of which the words of a refusal are one, with letters where its numbers stand. Assumes nothing.
 use Prim.Native.Nat.{ℕ, zero, suc, _+_}
+use Prim.Native.String.{String}
 use mathlib.Core.Bool.{Bool, _||_, _&&_, cond}
 use mathlib.Core.List.{List, [], _∷_, _++_, map}
 use lib.Dec.{eqb}
@@ -44,8 +45,11 @@ abbrev pub lettered : List Item → List ℕ
 lettered [] = []
 lettered (i ∷ l) = ascii ", " ++ (ascii (i .word) ++ (32 ∷ i .value ∷ lettered l))
 
+abbrev pub lineIn : ℕ → String → List Item → List ℕ
+lineIn n words l = ascii "refused " ++ (decimal n ++ (ascii ": " ++ (ascii words ++ (lettered l ++ (10 ∷ [])))))
+
 abbrev pub lineOf : ℕ → List Item → List ℕ
-lineOf n l = ascii "refused " ++ (decimal n ++ (ascii ": " ++ (ascii (causeWords n) ++ (lettered l ++ (10 ∷ [])))))
+lineOf n l = lineIn n (causeWords n) l
 
 -- those of k numbers from n on
 abbrev pub linesFrom : (ℕ → List ℕ) → ℕ → ℕ → List ℕ
@@ -73,8 +77,13 @@ openText n = lineOf n ("group" is 69 ∷ "item" is 70 ∷ [])
 abbrev pub manyText : ℕ → ℕ → List ℕ
 manyText f n = lineOf n (map (λ i. i .word is 70) (manyItems f n))
 
+-- of a sheet that a converter does not take, by the version that it takes
+abbrev pub versionText : String → List ℕ
+versionText words = lineIn 1 words ("byte" is 69 ∷ [])
+
 -- none and any number; a sheet's; a build's, and 21 of a Blas, of a Tlas, of no sort; a submission's, with 42 of a Build, and 42 of
--- a use and of no kind; an append's; a group's; an append's of many, and 6 at position 0; and 37 of an entry and of a package
+-- a use and of no kind; an append's; a group's; an append's of many, and 6 at position 0; 37 of an entry and of a package;
+-- and a converter's
 unfoldable pub lines : List ℕ
 lines =
     ascii "nothing is refused\nrefused #: no such cause\n"
@@ -96,7 +105,11 @@ lines =
     ++ (appendLine 39
     ++ (linesFrom openText 45 2
     ++ (linesFrom (manyText 70) 5 2
-    ++ (linesFrom (manyText 70) 34 2 ++ (manyText 0 6 ++ (buildText 1 37 ++ buildText 2 37)))))))))))))))))))))
+    ++ (linesFrom (manyText 70) 34 2
+    ++ (manyText 0 6
+    ++ (buildText 1 37
+    ++ (buildText 2 37
+    ++ (versionText "version not 1" ++ (versionText "version not 2" ++ sheetLine 47))))))))))))))))))))))))
 
 -- Which line
 
@@ -139,6 +152,13 @@ manyPlace n f =
     cond (eqb n 6 && eqb f 0) 65
     (cond (between 34 35 n) (n + 29) (cond (between 5 6 n) (n + 56) (cond (eqb n 39) 58 1)))
 
+-- lines of their own for another version and for an offset, and a writer's
+abbrev pub toTwoPlace : ℕ → ℕ
+toTwoPlace n = cond (eqb n 1) 68 (writePlace n)
+
+abbrev pub toOnePlace : ℕ → ℕ
+toOnePlace n = cond (eqb n 1) 69 (cond (eqb n 47) 70 (writePlace n))
+
 -- of a call's number: by the kind or the position, which is its F, and the first figure, which is its X
 abbrev pub linePlace : ℕ → ℕ → ℕ → ℕ → ℕ
 linePlace call n kind first =
@@ -148,4 +168,6 @@ linePlace call n kind first =
     (cond (eqb call 3) (actionPlace n kind)
     (cond (eqb call 4) (appendPlace n)
     (cond (eqb call 5) (writePlace n)
-    (cond (eqb call 6) (openPlace n) (cond (eqb call 7) (manyPlace n kind) 1)))))))
+    (cond (eqb call 6) (openPlace n)
+    (cond (eqb call 7) (manyPlace n kind)
+    (cond (eqb call 8) (toTwoPlace n) (cond (eqb call 9) (toOnePlace n) 1)))))))))

@@ -27,10 +27,10 @@ ghost use Rattle.report_words.specs.Refused.{refusedBy, wordsIn, Refuses
 ghost use Rattle.report_words.specs.Longest.{longestExplanation};
 ghost use Rattle.report_words.specs.Lines.{numberFor, isNumber, letter, filled, pastLines, lines};
 ghost use Rattle.report_words.specs.Lines.{destroyedPlace, reachedPlace, buildPlace, unbuiltPlace, actionPlace};
-ghost use Rattle.report_words.specs.Lines.{appendPlace, writePlace, openPlace, manyPlace, linePlace};
+ghost use Rattle.report_words.specs.Lines.{appendPlace, writePlace, openPlace, manyPlace, toTwoPlace, toOnePlace, linePlace};
 
 // The call that refuses, by its number (1 reads a sheet, 2 builds, 3 submits, 4 appends an instance, 5 writes a sheet, 6 opens groups, 7 appends many
-// instances), the refusal's number, place and figures; an action is in E and its kind in F, a group in E and its item in F, an instance's
+// instances, 8 converts a sheet to version 2, 9 to version 1), the refusal's number, place and figures; an action is in E and its kind in F, a group in E and its item in F, an instance's
 // position in F. Number 0 refuses nothing.
 pub struct Refusal {
     pub call: u64,
@@ -196,7 +196,7 @@ fn put_line(out: &mut [u8], at: usize, n: usize, v: Refusal) -> usize
 {
     let lines = b"nothing is refused
 refused #: no such cause
-refused 1: version not 1, byte E
+refused 1: version neither 1 nor 2, byte E
 refused 2: sheet ends early, byte E
 refused 3: bytes after the sheet, byte E
 refused 4: count above its limit, byte E
@@ -262,6 +262,9 @@ refused 35: Tlas returns vertices, Blas does not, instance F
 refused 6: id outside its table, Tlas or instance F
 refused 37: scratch 2^64 - 1, entry E
 refused 37: scratch 2^64 - 1, package E
+refused 1: version not 1, byte E
+refused 1: version not 2, byte E
+refused 47: first vertex or primitive offset above 2^32 - 1, byte E
 ";
     put_line_of(out, at, lines, n, v)
 }
@@ -348,10 +351,24 @@ fn many_place(n: u64, f: u64) -> usize
     pick(both(n == 6, f == 0), 65, shifted(n, 34, 35, 29, other))
 }
 
+fn to_two_place(n: u64) -> usize
+    ensures { λ r. ⌜ r ≡ toTwoPlace n ⌝ }
+{
+    pick(n == 1, 68, write_place(n))
+}
+
+fn to_one_place(n: u64) -> usize
+    ensures { λ r. ⌜ r ≡ toOnePlace n ⌝ }
+{
+    pick(n == 1, 69, pick(n == 47, 70, write_place(n)))
+}
+
 fn line_place(call: u64, n: u64, kind: u64, figure: u64) -> usize
     ensures { λ r. ⌜ r ≡ linePlace call n kind figure ⌝ }
 {
-    let seventh = pick(call == 7, many_place(n, kind), 1);
+    let ninth = pick(call == 9, to_one_place(n), 1);
+    let eighth = pick(call == 8, to_two_place(n), ninth);
+    let seventh = pick(call == 7, many_place(n, kind), eighth);
     let sixth = pick(call == 6, open_place(n), seventh);
     let fifth = pick(call == 5, write_place(n), sixth);
     let fourth = pick(call == 4, append_place(n), fifth);

@@ -4,6 +4,7 @@ use ray_tracing::SheetError;
 use ray_tracing::SheetRead;
 use ray_tracing::Version;
 use ray_tracing::geometry_size;
+use ray_tracing::version_number;
 use records::offset_at;
 use records::offset_width;
 use sheet::read_sheet;
@@ -19,7 +20,7 @@ ghost use lib.Seq.{sets};
 ghost use lib.Dec.{ltb};
 ghost use Rattle.wire.specs.Wire.{leAt, leBytes};
 ghost use Rattle.ray_tracing.specs.declared.Version.the-variants as version;
-ghost use Rattle.ray_tracing.specs.Layout.{versionNumber, offsetWidth, sizeIn};
+ghost use Rattle.ray_tracing.specs.Layout.{offsetWidth, sizeIn};
 ghost use Rattle.ray_tracing.specs.Reading.{fine};
 ghost use Rattle.ray_tracing.specs.Conversion as Conversion;
 ghost use Rattle.ray_tracing.specs.Conversion.{convertedRecord, convertedRecords, converted, judgeOffsets, convertingOf, Converts};
@@ -37,15 +38,6 @@ fn other(version: Version) -> Version
     match version {
         Version::One => Version::Two,
         Version::Two => Version::One,
-    }
-}
-
-fn version_number(version: Version) -> u8
-    ensures { λ r. ⌜ r ≡ versionNumber version ⌝ }
-{
-    match version {
-        Version::One => 1,
-        Version::Two => 2,
     }
 }
 

@@ -1,15 +1,17 @@
 // The layout's numbers as code: a section's record size, the most records that it may have, and counts that add up.
 use ray_tracing::ENTRY_SIZE;
+use ray_tracing::GEOMETRY_SIZE;
 use ray_tracing::PACKAGE_SIZE;
 use ray_tracing::Version;
 use ray_tracing::geometry_size;
+use ray_tracing::pick;
 use wire::u8_at;
 use wire::u16_at;
 ghost use mathlib.Core.Path.{_≡_};
 ghost use Prim.Native.Nat.{_+_, _/_, _≤_, _<_};
 ghost use lib.ListN.{length};
 ghost use lib.Dec.{eqb};
-ghost use Rattle.ray_tracing.specs.Layout.{layout, sizeIn};
+ghost use Rattle.ray_tracing.specs.Layout.{layout, size, sizeIn};
 ghost use Rattle.ray_tracing.specs.Reading.{sumOfCounts, addsUp, versionIn};
 
 // The version of a sheet whose version byte is 1 or 2.
@@ -23,10 +25,10 @@ pub fn version_in(sheet: &[u8]) -> Version
     Version::One
 }
 
-// A record's size; the header stands as section 0.
-pub fn size_of(version: Version, section: usize) -> usize
+// A record's size in version 1.
+fn narrow_size(section: usize) -> usize
     requires { ⌜ section < 10 ⌝ }
-    ensures { λ r. ⌜ r ≡ sizeIn version section ⌝ }
+    ensures { λ r. ⌜ r ≡ size section ⌝ }
 {
     match section {
         0 => 12,
@@ -35,11 +37,20 @@ pub fn size_of(version: Version, section: usize) -> usize
         3 => 18,
         4 => 22,
         5 => 5,
-        6 => geometry_size(version),
+        6 => GEOMETRY_SIZE,
         7 => 4,
         8 => 56,
         _ => 3,
     }
+}
+
+// A record's size; the header stands as section 0. Version 1's is one lookup, and a geometry's may be wider.
+pub fn size_of(version: Version, section: usize) -> usize
+    requires { ⌜ section < 10 ⌝ }
+    ensures { λ r. ⌜ r ≡ sizeIn version section ⌝ }
+{
+    let wider = geometry_size(version) - GEOMETRY_SIZE;
+    narrow_size(section) + pick(section == 6, wider, 0)
 }
 
 // The most records of a section.

@@ -4,7 +4,7 @@ use Rattle.capi_answers.proofs.write_answer.Statement.{statement}
 use Rattle.capi_answers.proofs.write_answer.Tie as tie
 
 returns : tie.Need-returns
-returns c = rw (c .before .written .given .1)
+returns c = rw (c .before .before .written .given .1) (c .write-done .ensures)
 
 returns-2 : tie.Need-returns-2
 returns-2 c = rw (c .before .before .before .written2 .given .1, ← c .before .sheet-number .ensures) (c .write-refused .ensures)
@@ -17,6 +17,7 @@ write-answer-spec =
     tie.close
     (tie.spec
     (λ c. search needs)
+    (λ c κs. search needs)
     (λ c. search needs)
     (λ c κs. search needs)
     (λ c κs. search needs)
