@@ -280,6 +280,22 @@ module _ (w : Version) (s : List ℕ) (x : Sheet) (e : readSheet s ≡ accepted 
         le-ltb room (length (converted w s)) l,
       )
 
+  -- "then 47", "then 39": an offset that does not fit is refused whatever room there is
+  pub converts-far :
+      (m q : ℕ)
+      → judgeOffsets (other w) w s (from s 6) (length (table s 6) / sizeIn (other w) 6) ≡ refused m q
+      → (room : ℕ)
+      → convertRule w s room ≡ unwritten m q
+  unfolding convertRule
+  converts-far m q f room =
+      let n = accepted-version s x e ∙ ap versionNumber k in
+      rw (
+        le-ltb (length s) 1 (omega (arith, accepted-whole s x e 0 (lit< tt))),
+        eq-eqb (leAt 1 s 0) (versionNumber (other w)) n,
+        e,
+        f,
+      )
+
 -- a call that wrote n bytes of out, and left p
 module _ (w : Version) (s out p : List ℕ) (n : ℕ) (call : Converts w s out (wrote n) p) (b : Below s) where
   abbrev fitting : Type 0
