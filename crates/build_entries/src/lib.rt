@@ -152,7 +152,9 @@ fn check_geometry_at(
     g: usize,
     at: usize,
 ) -> CheckedGeometry
-    requires { ⌜ GeometryInside (forEntries version (now buffers) (now blases) (now declared) (now entries) (now geometries)) i g ⌝ }
+    requires { ⌜
+        GeometryInside (forEntries version (now buffers) (now blases) (now declared) (now entries) (now geometries)) i g
+        ⌝ }
     requires { ⌜ at ≡ nthOf (now declared) (entryOf (ofEntries [] (now entries)) i .blas .0) j ⌝ }
     ensures { λ r. ⌜
         checkedOf r

@@ -66,7 +66,8 @@ fn geometry_ids(
 ) -> Verdict
     requires { ⌜ (i * size 5 + size 5 ≤ length (now entries)) × (g < length (now geometries) / sizeIn version 6) ⌝ }
     ensures { λ r. ⌜
-        verdictOf r ≡ geometryIds (forEntries version (now (buffers .entry)) [] [] (now (entries .entry)) (now (geometries .entry))) i j g
+        verdictOf r
+        ≡ geometryIds (forEntries version (now (buffers .entry)) [] [] (now (entries .entry)) (now (geometries .entry))) i j g
         ⌝ }
 {
     let entry = entry_at(entries, i * ENTRY_SIZE);
@@ -95,7 +96,8 @@ fn geometries_ids(
     ensures { λ r. ⌜
         verdictOf r
         ≡ firstOf
-        (λ j. geometryIds (forEntries version (now (buffers .entry)) [] [] (now (entries .entry)) (now (geometries .entry))) i j (g + j))
+        (λ j.
+        geometryIds (forEntries version (now (buffers .entry)) [] [] (now (entries .entry)) (now (geometries .entry))) i j (g + j))
         0
         count
         ⌝ }
@@ -126,7 +128,10 @@ fn entry_ids(
     requires { ⌜ count ≡ geometryCount (ofEntries [] (now entries)) i ⌝ }
     ensures { λ r. ⌜
         verdictOf r
-        ≡ entryIds (forEntries version (now (buffers .entry)) (now (blases .entry)) [] (now (entries .entry)) (now (geometries .entry))) i g
+        ≡ entryIds
+        (forEntries version (now (buffers .entry)) (now (blases .entry)) [] (now (entries .entry)) (now (geometries .entry)))
+        i
+        g
         ⌝ }
 {
     let geometry = geometries_ids(version, buffers, entries, geometries, i, g, count);
@@ -147,7 +152,8 @@ fn entries_ids(
     ensures { λ r. ⌜
         verdictOf r
         ≡ firstDrawing
-        (entryIds (forEntries version (now (buffers .entry)) (now (blases .entry)) [] (now (entries .entry)) (now (geometries .entry))))
+        (entryIds
+        (forEntries version (now (buffers .entry)) (now (blases .entry)) [] (now (entries .entry)) (now (geometries .entry))))
         (geometryCount (ofEntries [] (now (entries .entry))))
         0
         0

@@ -139,7 +139,9 @@ fn write_entry_ranges(
 pub fn write_init_ranges(version: Version, entries: &[u8], geometries: &[u8], out: &mut [u64])
     requires { ⌜ DrawnFit version (now entries) (now geometries) ⌝ }
     requires { ⌜ length (rangesIn version (now entries) (now geometries)) ≤ length (now out) ⌝ }
-    ensures { λ _. ⌜ now (out .exit) ≡ sets (now (out .entry)) 0 (rangesIn version (now (entries .entry)) (now (geometries .entry))) ⌝ }
+    ensures { λ _. ⌜
+        now (out .exit) ≡ sets (now (out .entry)) 0 (rangesIn version (now (entries .entry)) (now (geometries .entry)))
+        ⌝ }
 {
     let mut at: usize = 0;
     let mut g: usize = 0;

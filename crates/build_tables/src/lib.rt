@@ -45,7 +45,13 @@ fn judge_section(version: Version, section: usize, before: &[u8], table: &[u8]) 
     requires { ⌜ (0 < section) × (section < 10) ⌝ }
     ensures { λ r. ⌜
         verdictOf r
-        ≡ bySection section (judgeLent section (layoutIn version section) (sizeIn version (section - 1)) (now (before .entry)) (now (table .entry)))
+        ≡ bySection section
+        (judgeLent
+        section
+        (layoutIn version section)
+        (sizeIn version (section - 1))
+        (now (before .entry))
+        (now (table .entry)))
         ⌝ }
 {
     section_verdict(section, judge_lent(version, table, section, before))

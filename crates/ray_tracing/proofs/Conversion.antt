@@ -50,11 +50,11 @@ offsets-fit :
 unfolding judgeOffsets
 offsets-fit v w s zero at e g h = absurd (omega arith)
 offsets-fit v w s (suc n) at e zero h =
-    let x = or-fine (judgedWhen (not (ltb (leAt (offsetWidth v) s (at + 5)) (256 ^ offsetWidth w))) (refused 47 (at + 5))) _ e in
+    let x = or-fine (judgedWhen (not (ltb (leAt (offsetWidth v) s (at + 5)) (256 ^ offsetWidth w))) (refused 47 _)) _ e in
     let z : at + (0 * sizeIn v 6 + 5) ≡ at + 5 = omega arith in
-    rw z (ltb-true (leAt (offsetWidth v) s (at + 5)) (256 ^ offsetWidth w) (not-false _ (on-fine _ 47 (at + 5) (x .0))))
+    rw z (ltb-true (leAt (offsetWidth v) s (at + 5)) (256 ^ offsetWidth w) (not-false _ (on-fine _ 47 _ (x .0))))
 offsets-fit v w s (suc n) at e (suc g) h =
-    let x = or-fine (judgedWhen (not (ltb (leAt (offsetWidth v) s (at + 5)) (256 ^ offsetWidth w))) (refused 47 (at + 5))) _ e in
+    let x = or-fine (judgedWhen (not (ltb (leAt (offsetWidth v) s (at + 5)) (256 ^ offsetWidth w))) (refused 47 _)) _ e in
     let z : at + (suc g * sizeIn v 6 + 5) ≡ at + sizeIn v 6 + (g * sizeIn v 6 + 5) = omega (arith, suc-mul g (sizeIn v 6)) in
     rw z (offsets-fit v w s n (at + sizeIn v 6) (x .1) g (omega arith))
 

@@ -95,7 +95,10 @@ fn clear_geometry(version: Version, out: &mut [u8], at: usize, boxes: bool)
 
 fn clear_slot(out: &mut [u8], at: usize)
     requires { ⌜ at + size 8 ≤ length (now out) ⌝ }
-    ensures { λ _. ⌜ ((v : Version) (c : Seen) → now (out .exit) ≡ sets (now (out .entry)) at (recordCleared v 8 c (now (out .entry)) at)) ⌝ }
+    ensures { λ _. ⌜
+        ((v : Version) (c : Seen)
+        → now (out .exit) ≡ sets (now (out .entry)) at (recordCleared v 8 c (now (out .entry)) at))
+        ⌝ }
 {
     let present = u8_at(out, at) != 0;
     clear_unless(out, at + 1, 55, present);
@@ -103,7 +106,10 @@ fn clear_slot(out: &mut [u8], at: usize)
 
 fn clear_action(out: &mut [u8], at: usize)
     requires { ⌜ at + size 9 ≤ length (now out) ⌝ }
-    ensures { λ _. ⌜ ((v : Version) (c : Seen) → now (out .exit) ≡ sets (now (out .entry)) at (recordCleared v 9 c (now (out .entry)) at)) ⌝ }
+    ensures { λ _. ⌜
+        ((v : Version) (c : Seen)
+        → now (out .exit) ≡ sets (now (out .entry)) at (recordCleared v 9 c (now (out .entry)) at))
+        ⌝ }
 {
     let operand = u8_at(out, at) != 1;
     clear_unless(out, at + 1, 2, operand);
@@ -156,7 +162,11 @@ pub fn clear_records(
         sets (now (out .entry)) at
         (flatten
         (map (heldCanonical version section)
-        (recordsFrom (begin (sizeIn version (section - 1)) (now (before .entry)) boxes) (sizeIn version section) (drop at (now (out .entry))) n)))
+        (recordsFrom
+        (begin (sizeIn version (section - 1)) (now (before .entry)) boxes)
+        (sizeIn version section)
+        (drop at (now (out .entry)))
+        n)))
         ⌝ }
 {
     let size = size_of(version, section);

@@ -63,7 +63,7 @@ unfolding leBytes
 version-byte version.One = refl
 version-byte version.Two = refl
 
-module _ (v w : Version) (s : List ℕ) (at n : ℕ) (t : Taken v w s at n) where
+module _ {v w : Version} {s : List ℕ} {at n : ℕ} (t : Taken v w s at n) where
   whole : at + n * sizeIn v 6 ≤ length s
   whole = rw (t .there .0, t .there .1) (rw (t .known) at (accepted-whole s (t .sheet) (t .read) 5 (lit< tt)))
 

@@ -56,7 +56,9 @@ fn declared_rest_fits(s: &[u8], at: usize, boxes: bool) -> bool
 // `before` is the Blases, `each` bytes each and `count` of them.
 fn declared_fits(s: &[u8], at: usize, before: &[u8], each: usize, count: usize) -> bool
     requires { ⌜ (at + size 3 ≤ length (now s)) × (count ≡ length (now before) / each) ⌝ }
-    ensures { λ r. ⌜ ((v : Version) (boxes : Bool) → r ≡ recordFits v 3 (begin each (now (before .entry)) boxes) (now (s .entry)) at) ⌝ }
+    ensures { λ r. ⌜
+        ((v : Version) (boxes : Bool) → r ≡ recordFits v 3 (begin each (now (before .entry)) boxes) (now (s .entry)) at)
+        ⌝ }
 {
     let blas = u16_at(s, at) as usize;
     if count <= blas {

@@ -76,7 +76,13 @@ fn judge_table(
 pub fn judge_lent(version: Version, table: &[u8], section: usize, before: &[u8]) -> Judged
     requires { ⌜ (0 < section) × (section < 10) ⌝ }
     ensures { λ r. ⌜
-        judgedOf r ≡ judgeLent section (layoutIn version section) (sizeIn version (section - 1)) (now (before .entry)) (now (table .entry))
+        judgedOf r
+        ≡ judgeLent
+        section
+        (layoutIn version section)
+        (sizeIn version (section - 1))
+        (now (before .entry))
+        (now (table .entry))
         ⌝ }
 {
     let size = size_of(version, section);

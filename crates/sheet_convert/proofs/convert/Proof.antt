@@ -23,7 +23,7 @@ version-number-requires : tie.Need-version-number-requires
 version-number-requires c κs = search needs
 
 returns-2 : tie.Need-returns-2
-returns-2 c = 
+returns-2 c =
     let n = c .before .version-number .ensures ∙ ap versionNumber (c .before .before .before .before .other .ensures) in
     other-call (c .before .before .before .before .before .before .before .args .to) (c .before .before .before .before .before .before .before .args .sheet .now) (c .before .before .before .before .before .before .before .args .out .now) (c .before .before .before .if1 .left)
     (λ q. c .if2 .taken (c .before .before .u8-at .ensures ∙ q ∙ sym n))
@@ -35,7 +35,7 @@ enum-known-x : tie.Need-enum-known-x
 enum-known-x c = search needs
 
 convert-accepted-requires : tie.Need-convert-accepted-requires
-convert-accepted-requires c κs = 
+convert-accepted-requires c κs =
     let s = c .before .before .before .before .before .before .before .before .before .before .before .before .before .args .sheet .now in
     let r = sym (sym (ap readingOf (c .before .before .before .x .given .1)) ∙ c .before .before .before .before .before .read-sheet .ensures) in
     let n = sym (c .before .before .before .before .before .before .before .before .u8-at .ensures) ∙ c .before .before .before .before .before .before .if2 .left ∙ c .before .before .before .before .before .before .before .version-number .ensures in
@@ -58,7 +58,7 @@ returns-3 : tie.Need-returns-3
 returns-3 c = search needs
 
 returns-4 : tie.Need-returns-4
-returns-4 c = 
+returns-4 c =
     let s = c .before .before .before .before .before .before .before .before .before .before .before .args .sheet .now in
     let n = sym (c .before .before .before .before .before .before .u8-at .ensures) ∙ c .before .before .before .before .if2 .left ∙ c .before .before .before .before .before .version-number .ensures ∙ ap versionNumber (c .before .before .before .before .before .before .before .before .other .ensures) in
     refused-call (c .before .before .before .before .before .before .before .before .before .before .before .args .to) s (c .before .before .before .before .before .before .before .before .before .before .before .args .out .now) (c .before .before .before .before .before .before .before .if1 .left) n _ _ (sym (ap readingOf (c .before .e .given .1)) ∙ c .before .before .before .read-sheet .ensures)

@@ -12,13 +12,13 @@ use Rattle.sheet_convert.proofs.convert_accepted.Statement.{statement}
 use Rattle.sheet_convert.proofs.convert_accepted.Tie as tie
 
 judge-offsets-requires : tie.Need-judge-offsets-requires
-judge-offsets-requires c κs = stands (c .before .before .args .from) (c .before .before .args .to) (c .before .before .args .sheet .now) (c .before .before .args .start) (c .before .before .args .n) (c .before .before .pre) .1
+judge-offsets-requires c κs = stands (c .before .before .pre) .1
 
 enum-known-place : tie.Need-enum-known-place
 enum-known-place c = search needs
 
 returns : tie.Need-returns
-returns c = far-call (c .before .before .before .before .before .before .args .from) (c .before .before .before .before .before .before .args .to) (c .before .before .before .before .before .before .args .sheet .now) (c .before .before .before .before .before .before .args .start) (c .before .before .before .before .before .before .args .n) (c .before .before .before .before .before .before .pre) (c .before .before .before .before .before .before .args .out .now) _ (sym (ap offsetsOf (c .before .place .given .1)) ∙ c .before .before .before .judge-offsets .ensures)
+returns c = far-call (c .before .before .before .before .before .before .pre) (c .before .before .before .before .before .before .args .out .now) _ (sym (ap offsetsOf (c .before .place .given .1)) ∙ c .before .before .before .judge-offsets .ensures)
 
 enum-told : tie.Need-enum-told
 enum-told c = search needs
@@ -27,41 +27,41 @@ geometry-size-requires : tie.Need-geometry-size-requires
 geometry-size-requires c κs = search needs
 
 mul-written : tie.Need-mul-written
-mul-written c = rw (c .geometry-size .ensures) (omega (arith, stands (c .before .before .before .before .before .before .args .from) (c .before .before .before .before .before .before .args .to) (c .before .before .before .before .before .before .args .sheet .now) (c .before .before .before .before .before .before .args .start) (c .before .before .before .before .before .before .args .n) (c .before .before .before .before .before .before .pre)))
+mul-written c = rw (c .geometry-size .ensures) (omega (arith, stands (c .before .before .before .before .before .before .pre)))
 
 sub-written : tie.Need-sub-written
-sub-written c = rw (c .geometry-size .ensures) (omega (arith, stands (c .before .before .before .before .before .before .args .from) (c .before .before .before .before .before .before .args .to) (c .before .before .before .before .before .before .args .sheet .now) (c .before .before .before .before .before .before .args .start) (c .before .before .before .before .before .before .args .n) (c .before .before .before .before .before .before .pre)))
+sub-written c = rw (c .geometry-size .ensures) (omega (arith, stands (c .before .before .before .before .before .before .pre)))
 
 geometry-size-requires-2 : tie.Need-geometry-size-requires-2
 geometry-size-requires-2 c κs = search needs
 
 mul-written-2 : tie.Need-mul-written-2
-mul-written-2 c = rw (c .geometry-size2 .ensures) (omega (arith, stands (c .before .before .before .before .before .before .before .args .from) (c .before .before .before .before .before .before .before .args .to) (c .before .before .before .before .before .before .before .args .sheet .now) (c .before .before .before .before .before .before .before .args .start) (c .before .before .before .before .before .before .before .args .n) (c .before .before .before .before .before .before .before .pre), wider (c .before .before .before .before .before .before .before .args .from) (c .before .before .before .before .before .before .before .args .to) (c .before .before .before .before .before .before .before .args .n)))
+mul-written-2 c = rw (c .geometry-size2 .ensures) (omega (arith, stands (c .before .before .before .before .before .before .before .pre), wider (c .before .before .before .before .before .before .before .args .from) (c .before .before .before .before .before .before .before .args .to) (c .before .before .before .before .before .before .before .args .n)))
 
 add-written : tie.Need-add-written
-add-written c = rw (c .before .geometry-size .ensures, c .geometry-size2 .ensures) (omega (arith, stands (c .before .before .before .before .before .before .before .args .from) (c .before .before .before .before .before .before .before .args .to) (c .before .before .before .before .before .before .before .args .sheet .now) (c .before .before .before .before .before .before .before .args .start) (c .before .before .before .before .before .before .before .args .n) (c .before .before .before .before .before .before .before .pre), wider (c .before .before .before .before .before .before .before .args .from) (c .before .before .before .before .before .before .before .args .to) (c .before .before .before .before .before .before .before .args .n)))
+add-written c = rw (c .before .geometry-size .ensures, c .geometry-size2 .ensures) (omega (arith, stands (c .before .before .before .before .before .before .before .pre), wider (c .before .before .before .before .before .before .before .args .from) (c .before .before .before .before .before .before .before .args .to) (c .before .before .before .before .before .before .before .args .n)))
 
 returns-2 : tie.Need-returns-2
-returns-2 c = 
+returns-2 c =
     let e = sym (ap offsetsOf (c .before .before .before .enum-told .given .1)) ∙ c .before .before .before .before .before .judge-offsets .ensures in
-    let l = rw (c .before .before .geometry-size .ensures, c .before .geometry-size2 .ensures, long (c .before .before .before .before .before .before .before .before .args .from) (c .before .before .before .before .before .before .before .before .args .to) (c .before .before .before .before .before .before .before .before .args .sheet .now) (c .before .before .before .before .before .before .before .before .args .start) (c .before .before .before .before .before .before .before .before .args .n) (c .before .before .before .before .before .before .before .before .pre)) at (c .if1 .taken) in
-    short-call (c .before .before .before .before .before .before .before .before .args .from) (c .before .before .before .before .before .before .before .before .args .to) (c .before .before .before .before .before .before .before .before .args .sheet .now) (c .before .before .before .before .before .before .before .before .args .start) (c .before .before .before .before .before .before .before .before .args .n) (c .before .before .before .before .before .before .before .before .pre) (c .before .before .before .before .before .before .before .before .args .out .now) e l
+    let l = rw (c .before .before .geometry-size .ensures, c .before .geometry-size2 .ensures, long (c .before .before .before .before .before .before .before .before .pre)) at (c .if1 .taken) in
+    short-call (c .before .before .before .before .before .before .before .before .pre) (c .before .before .before .before .before .before .before .before .args .out .now) e l
 
 write-converted-requires : tie.Need-write-converted-requires
-write-converted-requires c κs = 
+write-converted-requires c κs =
     let e = sym (ap offsetsOf (c .before .before .before .before .enum-told .given .1)) ∙ c .before .before .before .before .before .before .judge-offsets .ensures in
-    let l = rw (c .before .before .before .geometry-size .ensures, c .before .before .geometry-size2 .ensures, long (c .before .before .before .before .before .before .before .before .before .args .from) (c .before .before .before .before .before .before .before .before .before .args .to) (c .before .before .before .before .before .before .before .before .before .args .sheet .now) (c .before .before .before .before .before .before .before .before .before .args .start) (c .before .before .before .before .before .before .before .before .before .args .n) (c .before .before .before .before .before .before .before .before .before .pre)) at (c .before .if1 .left) in
+    let l = rw (c .before .before .before .geometry-size .ensures, c .before .before .geometry-size2 .ensures, long (c .before .before .before .before .before .before .before .before .before .pre)) at (c .before .if1 .left) in
     record { taken = c .before .before .before .before .before .before .before .before .before .pre; fits = sym e; enough = l }
 
 same-length : tie.Need-same-length
 same-length c = search needs
 
 returns-3 : tie.Need-returns-3
-returns-3 c = 
+returns-3 c =
     let e = sym (ap offsetsOf (c .before .before .before .before .before .before .before .enum-told .given .1)) ∙ c .before .before .before .before .before .before .before .before .before .judge-offsets .ensures in
-    let l = rw (c .before .before .before .before .before .before .geometry-size .ensures, c .before .before .before .before .before .geometry-size2 .ensures, long (c .before .before .before .before .before .before .before .before .before .before .before .before .args .from) (c .before .before .before .before .before .before .before .before .before .before .before .before .args .to) (c .before .before .before .before .before .before .before .before .before .before .before .before .args .sheet .now) (c .before .before .before .before .before .before .before .before .before .before .before .before .args .start) (c .before .before .before .before .before .before .before .before .before .before .before .before .args .n) (c .before .before .before .before .before .before .before .before .before .before .before .before .pre)) at (c .before .before .before .before .if1 .left) in
-    rw (c .before .before .before .before .before .before .geometry-size .ensures, c .before .before .before .before .before .geometry-size2 .ensures, long (c .before .before .before .before .before .before .before .before .before .before .before .before .args .from) (c .before .before .before .before .before .before .before .before .before .before .before .before .args .to) (c .before .before .before .before .before .before .before .before .before .before .before .before .args .sheet .now) (c .before .before .before .before .before .before .before .before .before .before .before .before .args .start) (c .before .before .before .before .before .before .before .before .before .before .before .before .args .n) (c .before .before .before .before .before .before .before .before .before .before .before .before .pre))
-    (written-call (c .before .before .before .before .before .before .before .before .before .before .before .before .args .from) (c .before .before .before .before .before .before .before .before .before .before .before .before .args .to) (c .before .before .before .before .before .before .before .before .before .before .before .before .args .sheet .now) (c .before .before .before .before .before .before .before .before .before .before .before .before .args .start) (c .before .before .before .before .before .before .before .before .before .before .before .before .args .n) (c .before .before .before .before .before .before .before .before .before .before .before .before .pre) (c .before .before .before .before .before .before .before .before .before .before .before .before .args .out .now) e l _ (c .before .before .write-converted .ensures))
+    let l = rw (c .before .before .before .before .before .before .geometry-size .ensures, c .before .before .before .before .before .geometry-size2 .ensures, long (c .before .before .before .before .before .before .before .before .before .before .before .before .pre)) at (c .before .before .before .before .if1 .left) in
+    rw (c .before .before .before .before .before .before .geometry-size .ensures, c .before .before .before .before .before .geometry-size2 .ensures, long (c .before .before .before .before .before .before .before .before .before .before .before .before .pre))
+    (written-call (c .before .before .before .before .before .before .before .before .before .before .before .before .pre) (c .before .before .before .before .before .before .before .before .before .before .before .before .args .out .now) e l _ (c .before .before .write-converted .ensures))
 
 pub convert-accepted-spec : {M : Type 1} → statement M
 convert-accepted-spec =

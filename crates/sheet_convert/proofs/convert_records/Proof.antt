@@ -33,11 +33,10 @@ loop-holds : tie.Need-loop-holds Inv-loop μ-loop
 loop-holds c = (c .before .before .before .before .pre .0, (refl, (c .before .before .before .before .pre .1, refl)))
 
 convert-record-requires : tie.Need-convert-record-requires Inv-loop μ-loop
-convert-record-requires c κs = 
+convert-record-requires c κs =
     let a = c .before .before .before .before .before .before .before .args in
     let l = c .before .before .loop in
-    let h = c .before .loop-test .taken in
-    (
+    let h = c .before .loop-test .taken in (
       (
         omega (arith, one-less (l .left) (sizeIn (a .from) 6) h, l .inv .0 .0),
         omega (arith, one-less (l .left) (sizeIn (a .to) 6) h, l .inv .0 .1),
@@ -58,15 +57,14 @@ loop-less : tie.Need-loop-less Inv-loop μ-loop
 loop-less c = omega arith
 
 loop-again : tie.Need-loop-again Inv-loop μ-loop
-loop-again c = 
+loop-again c =
     let a = c .before .before .before .before .before .before .before .before .before .before .args in
     let l = c .before .before .before .before .before .loop in
     let h = c .before .before .before .before .loop-test .taken in
     let z = c .before .before .before .before .before .before .before .geometry-size .ensures in
     let y = c .before .before .before .before .before .before .geometry-size2 .ensures in
     let done = c .before .before .convert-record .ensures in
-    let m = simp length-sets at (ap length done) in
-    (
+    let m = simp length-sets at (ap length done) in (
       (
         omega (arith, z, one-less (l .left) (sizeIn (a .from) 6) h, l .inv .0 .0),
         omega (arith, y, m, one-less (l .left) (sizeIn (a .to) 6) h, l .inv .0 .1),
@@ -76,8 +74,8 @@ loop-again c =
         (
           rw z (offsets-after (a .from) (a .to) (a .sheet .now) (l .p) (l .left) h (l .inv .1 .1 .0)),
           rw (z, y)
-          (records-next (a .from) (a .to) (a .sheet .now) (l .p) (omega (arith, one-less (l .left) (sizeIn (a .from) 6) h, l .inv .0 .0)) (l .q) (l .left) (l .out) h done
-          ∙ l .inv .1 .1 .1),
+              (records-next (a .from) (a .to) (a .sheet .now) (l .p) (omega (arith, one-less (l .left) (sizeIn (a .from) 6) h, l .inv .0 .0)) (l .q) (l .left) (l .out) h done
+              ∙ l .inv .1 .1 .1),
         ),
       ),
     )
@@ -86,7 +84,7 @@ same-length : tie.Need-same-length Inv-loop μ-loop
 same-length c = omega (arith, c .before .loop .inv .1 .0)
 
 returns : tie.Need-returns Inv-loop μ-loop
-returns c = 
+returns c =
     let a = c .before .before .before .before .before .before .args in
     let l = c .before .loop in
     sym (nothing-left (a .from) (a .to) (drop (l .p) (a .sheet .now)) (l .out) (l .q) (l .left) (omega (arith, c .loop-test .left)))

@@ -37,7 +37,7 @@ offset-fits-requires : tie.Need-offset-fits-requires Inv-loop μ-loop
 offset-fits-requires c κs = search needs
 
 returns : tie.Need-returns Inv-loop μ-loop
-returns c = 
+returns c =
     let a = c .before .before .before .before .before .before .before .args in
     let l = c .before .before .before .before .loop in
     let e = ap (λ (o : ℕ). ltb o (256 ^ offsetWidth (a .to))) (sym (c .before .before .offset-at .ensures)) ∙ sym (c .before .offset-fits .ensures) ∙ not-true (c .before .offset-fits .result) (c .if1 .taken) in
@@ -53,19 +53,18 @@ loop-less : tie.Need-loop-less Inv-loop μ-loop
 loop-less c = omega arith
 
 loop-again : tie.Need-loop-again Inv-loop μ-loop
-loop-again c = 
+loop-again c =
     let a = c .before .before .before .before .before .before .before .args in
     let l = c .before .before .before .before .loop in
     let z = c .before .before .before .before .before .geometry-size .ensures in
     let h = c .before .before .before .loop-test .taken in
-    let e = ap (λ (o : ℕ). ltb o (256 ^ offsetWidth (a .to))) (sym (c .before .before .offset-at .ensures)) ∙ sym (c .before .offset-fits .ensures) ∙ not-false (c .before .offset-fits .result) (c .if1 .left) in
-    (
+    let e = ap (λ (o : ℕ). ltb o (256 ^ offsetWidth (a .to))) (sym (c .before .before .offset-at .ensures)) ∙ sym (c .before .offset-fits .ensures) ∙ not-false (c .before .offset-fits .result) (c .if1 .left) in (
       omega (arith, z, one-less (l .left) (sizeIn (a .from) 6) h, l .inv .0),
       rw z (sym (offsets-next (a .from) (a .to) (a .sheet .now) (l .p) (l .left) h e) ∙ l .inv .1),
     )
 
 returns-2 : tie.Need-returns-2 Inv-loop μ-loop
-returns-2 c = 
+returns-2 c =
     let a = c .before .before .before .before .args in
     let l = c .before .loop in
     sym (none-left (a .from) (a .to) (a .sheet .now) (l .p) (l .left) (omega (arith, c .loop-test .left))) ∙ l .inv .1
