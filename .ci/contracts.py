@@ -10,6 +10,8 @@ ROOT = pathlib.Path(__file__).resolve().parent.parent
 ENTRY = {
     "read_sheet": "sheet",
     "write_sheet": "sheet_write",
+    "to_version_2": "sheet_convert",
+    "to_version_1": "sheet_convert",
     "open_groups": "groups",
     "build_acceleration_structures": "build",
     "submit": "submit",

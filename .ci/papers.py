@@ -134,6 +134,8 @@ for paper in ["README.md", "docs/PROMISES.md", "docs/DECISIONS.md"]:
 
 CALLS = {
     "write_sheet": "WritesSheet",
+    "to_version_2": "Converts",
+    "to_version_1": "Converts",
     "open_groups": "OpensGroups",
     "build_acceleration_structures": "Builds",
     "submit": "Submits",
@@ -143,8 +145,11 @@ CALLS = {
     "report": "Puts",
     "explain": "Puts",
     "zakvind_write_sheet": "WritesSheetAs",
+    "zakvind_to_version_2": "ConvertsAs",
+    "zakvind_to_version_1": "ConvertsAs",
     "zakvind_open_groups": "OpensGroupsAs",
     "zakvind_build": "BuildsAs",
+    "zakvind_build_wide": "BuildsAs",
     "zakvind_submit": "Validates",
     "zakvind_append_instance": "AppendsAs",
     "zakvind_append_instances": "AppendsManyAs",

@@ -1,12 +1,12 @@
 -- "Going there and back gives the same bytes": of any two calls of the converters, each by the definition that its contract cites. And a
 -- converted sheet is read, and builds and submits as it did.
 use Prim.Native.Nat.{ℕ, zero, suc, _+_, _-_, _*_, _/_, _^_, _≤_, _<_}
-use native.Mathlib.Nat.{zero-mul, suc-mul, mul-div-cancel, mul-le-mul-right}
+use native.Mathlib.Nat.{suc-mul, mul-le-mul-right}
 use native.Mathlib.Omega.{arith}
-use mathlib.Core.Bool.{Bool, true, false, not, cond}
+use mathlib.Core.Bool.{Bool, true, false, not}
 use mathlib.Core.Path.{_≡_, refl, sym, ap, _∙_, subst}
-use mathlib.Core.List.{List, [], _∷_, _++_}
-use lib.Dec.{eqb, ltb, lit<}
+use mathlib.Core.List.{List, _++_}
+use lib.Dec.{ltb, lit<}
 use lib.ListN.{length, take, drop, length-append, length-drop}
 use lib.Seq.{sets, length-take-le}
 use borrow.Author.Tests.{ltb-true, ltb-false, lt-ltb, le-ltb, eq-eqb, eqb-true, not-false}
@@ -16,8 +16,8 @@ use Rattle.ray_tracing.specs.declared.Version.{Version}
 use Rattle.ray_tracing.specs.declared.Version.the-variants as version
 use Rattle.ray_tracing.specs.declared.BlasGeometry.{BlasGeometry}
 use Rattle.ray_tracing.specs.declared.Sheet.{Sheet}
-use Rattle.ray_tracing.specs.Layout.{versionNumber, offsetWidth, geometries, sizeIn}
-use Rattle.ray_tracing.specs.Reading.{Judged, fine, refused, judgedWhen, _andNext_, versionIn, past, from, table, sheetOf, Reading, accepted, readSheet}
+use Rattle.ray_tracing.specs.Layout.{versionNumber, offsetWidth, sizeIn}
+use Rattle.ray_tracing.specs.Reading.{Judged, fine, refused, judgedWhen, _andNext_, versionIn, past, from, table, accepted, readSheet}
 use Rattle.ray_tracing.specs.Plan.{Tables, tablesOf, sheetTables, passed, judgeTables, Outputs, planOf, build, outputsAfter, geometryOf}
 use Rattle.ray_tracing.specs.Report.{answerLines, builtLines, readingLines, report}
 use Rattle.ray_tracing.specs.Canonical.{sheetBytes, headerBytes, Writing, wrote, unwritten, writingLeaves}
@@ -28,11 +28,11 @@ use Rattle.ray_tracing.proofs.Each.{each}
 use Rattle.ray_tracing.proofs.Reading.{refused-not-fine, or-fine, on-fine, past-more, from-more}
 use Rattle.ray_tracing.proofs.Sheets.{accepted-is, accepted-version, accepted-alignment, accepted-whole, accepted-length, accepted-lent}
 use Rattle.ray_tracing.proofs.Accepted.{build-takes}
-use Rattle.ray_tracing.proofs.Writing.{version-is, written-table, written-read, alignment-read, counter-read}
+use Rattle.ray_tracing.proofs.Writing.{version-is, written-table, written-read}
 use Rattle.ray_tracing.proofs.Versions.{geometry-size, version-known}
 use Rattle.ray_tracing.proofs.Canonical.{below-table, sections-cong, wrote-not, wrote-read, wrote-fits, written-back}
 use Rattle.ray_tracing.proofs.SameGeometries.{withGeometries, plan-same, build-same, after-same, lines-same}
-use Rattle.ray_tracing.proofs.Converted.{Fits, many-size, table-length, table-many, table-back, table-same}
+use Rattle.ray_tracing.proofs.Converted.{Fits, many-size, table-length, table-back, table-same}
 use Rattle.ray_tracing.proofs.ConvertedSheet.{sheet-again, tablesIn, AllLent, lent-others, converted-is}
 
 pub other-other : (v : Version) → other (other v) ≡ v

@@ -1,12 +1,10 @@
 -- Geometries in the other version: they are judged as they were, they are the same geometries, and converted back they have their bytes.
-use Prim.Native.Nat.{ℕ, zero, suc, _+_, _*_, _/_, _%_, _^_, _≤_, _<_}
+use Prim.Native.Nat.{ℕ, zero, suc, _+_, _*_, _/_, _^_, _≤_, _<_}
 use native.Mathlib.Nat.{add-zero, zero-add, zero-mul, suc-mul, mul-div-cancel, mul-mod-left, mul-le-mul-right, div-add-mod'}
 use native.Mathlib.Decide.{decLt}
 use native.Mathlib.Omega.{arith}
-use mathlib.Core.Bool.{true}
-use mathlib.Core.Path.{_≡_, refl, sym, ap, _∙_, subst}
+use mathlib.Core.Path.{_≡_, refl, sym, ap, _∙_}
 use mathlib.Core.List.{List, [], _∷_, _++_, map, flatten, append-assoc, append-nil}
-use lib.Dec.{eqb}
 use lib.ListN.{length, take, drop, length-append, length-drop, take-append-drop, drop-of-length-le}
 use lib.Seq.{length-take-le, drop-drop, take-at, drop-at, take-add, take-all, take-nil}
 use borrow.Author.Tests.{le-ltb, eqb-true}
@@ -16,7 +14,7 @@ use Rattle.ray_tracing.specs.declared.Version.{Version}
 use Rattle.ray_tracing.specs.declared.Version.the-variants as version
 use Rattle.ray_tracing.specs.declared.BlasGeometry.{BlasGeometry}
 use Rattle.ray_tracing.specs.Layout.{Seen, Field, always, any, u8, u32, wide, geometries, offsetWidth, size, sizeIn, total, placeOf, widthOf}
-use Rattle.ray_tracing.specs.Reading.{fine, refused, judgeField, judgeFields, judgeLent, sumOfCounts, begin, ofBoxes, drawnCount}
+use Rattle.ray_tracing.specs.Reading.{fine, judgeField, judgeFields, judgeLent, sumOfCounts, begin, ofBoxes, drawnCount}
 use Rattle.ray_tracing.specs.Records.{fieldOf, geometryAt}
 use Rattle.ray_tracing.specs.Meaning.{Held, recordsFrom, drawnFrom}
 use Rattle.ray_tracing.specs.Conversion.{convertedRecord, convertedRecords, convertedTable}
@@ -24,10 +22,10 @@ use Rattle.ray_tracing.proofs.Instances.{Below}
 use Rattle.ray_tracing.proofs.Reading.{or-fine}
 use Rattle.ray_tracing.proofs.Sheets.{Lent, lent-tells, lent-of, moved-fine}
 use Rattle.ray_tracing.proofs.Windows.{moved}
-use Rattle.ray_tracing.proofs.Versions.{geometry-size, offset-width}
+use Rattle.ray_tracing.proofs.Versions.{geometry-size}
 use Rattle.ray_tracing.proofs.Each.{size-positive}
 use Rattle.ray_tracing.proofs.Zeroed.{le-zero, rest-judged}
-use Rattle.ray_tracing.proofs.Held.{All, all-append, Fine, records-each, records-seen, records-sized, drawn-each, drawn-all, flatten-map, cut-drawn-at}
+use Rattle.ray_tracing.proofs.Held.{All, all-append, Fine, records-sized, drawn-each, drawn-all, flatten-map, cut-drawn-at}
 use Rattle.ray_tracing.proofs.TableMeaning.{below-take, below-drop}
 
 -- ---- a field by its record

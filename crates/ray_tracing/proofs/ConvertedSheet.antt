@@ -1,32 +1,29 @@
 -- A sheet in the other version is the sheet of its tables with the geometries converted. So it is read, and back it has its bytes.
-use Prim.Native.Nat.{ℕ, zero, suc, _+_, _-_, _*_, _/_, _^_, _≤_, _<_}
-use native.Mathlib.Nat.{add-zero, zero-add, suc-mul, mul-div-cancel}
-use native.Mathlib.Numerals.{add-one}
+use Prim.Native.Nat.{ℕ, zero, suc, _+_, _-_, _*_, _≤_, _<_}
+use native.Mathlib.Nat.{add-zero, zero-add, mul-div-cancel}
 use native.Mathlib.Omega.{arith}
-use mathlib.Core.Bool.{Bool, true, false, not, cond}
-use mathlib.Core.Path.{_≡_, refl, sym, ap, _∙_, subst}
-use mathlib.Core.List.{List, [], _∷_, _++_, append-assoc}
-use lib.Dec.{eqb, ltb, lit<}
-use lib.ListN.{length, getD, take, drop, length-append, length-drop, take-append-drop, drop-of-length-le}
-use lib.Seq.{drop-drop, take-at, take-add, take-suc, length-take-le}
-use borrow.Author.Tests.{ltb-true, lt-ltb, not-false}
+use mathlib.Core.Bool.{cond}
+use mathlib.Core.Path.{_≡_, refl, sym, ap, _∙_}
+use mathlib.Core.List.{List, _∷_, _++_, append-assoc}
+use lib.Dec.{eqb, lit<}
+use lib.ListN.{length, getD, take, drop, length-append, take-append-drop, drop-of-length-le}
+use lib.Seq.{drop-drop, take-at, take-add, take-suc}
 use Rattle.wire.specs.Wire.{leAt, leBytes}
-use Rattle.wire.proofs.Laws.{le-below, le-drop, le-take, leBytes-at, length-leBytes}
+use Rattle.wire.proofs.Laws.{leBytes-at, length-leBytes}
 use Rattle.ray_tracing.specs.declared.Version.{Version}
 use Rattle.ray_tracing.specs.declared.Version.the-variants as version
 use Rattle.ray_tracing.specs.declared.Sheet.{Sheet}
-use Rattle.ray_tracing.specs.Layout.{versionNumber, offsetWidth, geometries, layoutIn, size, sizeIn}
-use Rattle.ray_tracing.specs.Reading.{Judged, fine, refused, judgedWhen, judgeLent, versionIn, past, from, table, accepted, readSheet}
+use Rattle.ray_tracing.specs.Layout.{versionNumber, layoutIn, sizeIn}
+use Rattle.ray_tracing.specs.Reading.{fine, judgeLent, versionIn, past, table, accepted, readSheet}
 use Rattle.ray_tracing.specs.Canonical.{countOf, sectionBytes, headerBytes, sheetBytes}
 use Rattle.ray_tracing.specs.Writing.{endOf}
-use Rattle.ray_tracing.specs.Conversion.{other, convertedTable, converted, judgeOffsets}
+use Rattle.ray_tracing.specs.Conversion.{other, convertedTable, converted}
 use Rattle.ray_tracing.proofs.Instances.{Below}
 use Rattle.ray_tracing.proofs.Each.{each, size-positive}
-use Rattle.ray_tracing.proofs.Reading.{or-fine, on-fine, past-more, from-more}
-use Rattle.ray_tracing.proofs.Sheets.{lent-apart, table-section, accepted-version, accepted-end, accepted-whole, accepted-length, accepted-lent}
-use Rattle.ray_tracing.proofs.Writing.{end-more, version-is, written-all, written-table}
-use Rattle.ray_tracing.proofs.Versions.{geometry-size}
-use Rattle.ray_tracing.proofs.Converted.{Fits, table-many, table-lent}
+use Rattle.ray_tracing.proofs.Reading.{past-more, from-more}
+use Rattle.ray_tracing.proofs.Sheets.{lent-apart, table-section, accepted-version, accepted-end, accepted-whole, accepted-length}
+use Rattle.ray_tracing.proofs.Writing.{end-more, written-all, written-table}
+use Rattle.ray_tracing.proofs.Converted.{table-many, table-lent}
 
 -- ---- sections end to end
 

@@ -1,14 +1,13 @@
 -- Tables whose geometries are the same, in whatever version and bytes: a build of them answers alike, and so does a report.
 use Prim.Native.Nat.{ℕ, zero, suc, _+_, _*_, _/_}
 use mathlib.Core.Bool.{Bool, true, false, cond}
-use mathlib.Core.Path.{_≡_, refl, sym, ap, _∙_}
+use mathlib.Core.Path.{_≡_, refl, ap}
 use mathlib.Core.List.{List, [], _∷_, _++_}
 use lib.ListN.{length, getD}
 use lib.Dec.{eqb}
 use Rattle.ray_tracing.specs.declared.Version.{Version}
 use Rattle.ray_tracing.specs.declared.BlasGeometry.{BlasGeometry}
-use Rattle.ray_tracing.specs.Layout.{size, sizeIn}
-use Rattle.ray_tracing.specs.Records.{fieldAt, geometryAt}
+use Rattle.ray_tracing.specs.Layout.{size}
 use Rattle.ray_tracing.specs.Checks as checks
 use Rattle.ray_tracing.specs.Triangles.{unlessNone, trianglesRule}
 use Rattle.ray_tracing.specs.Boxes.{boxesRule}
@@ -33,13 +32,11 @@ use Rattle.ray_tracing.specs.Plan.{
   declaredOf,
   optionalMention,
   geometryIds,
-  entryIds,
   packageIds,
   judgeTables,
   judgeIds,
   checkedAt,
   checkedE,
-  judgeEntry,
   judgeEntries,
   judgePackages,
   scratchSize,

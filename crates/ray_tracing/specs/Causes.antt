@@ -20,7 +20,7 @@ use Rattle.ray_tracing.specs.declared.ValidateAsActionsError.{ValidateAs
 use Rattle.ray_tracing.specs.declared.ValidateAsActionsError.the-variants as submission
 use Rattle.ray_tracing.specs.Reading as reading
 
--- "version not 1; sheet ends early; bytes after it | 1; 2; 3", "count above its limit; value outside its field | 4; 5"
+-- "version not 1" (neither 1 nor 2), "sheet ends early; bytes after it | 1; 2; 3", "count above its limit; value outside its field | 4; 5"
 abbrev pub sheetNumber : SheetError → ℕ
 sheetNumber sheet.UnknownVersion = 1
 sheetNumber sheet.Truncated = 2

@@ -1,14 +1,14 @@
 -- What a call answers and leaves: an empty sheet, another version, what the reader refuses, an offset that does not fit, too little room, and
 -- where it writes.
-use Prim.Native.Nat.{ℕ, zero, suc, _+_, _-_, _*_, _/_, _≤_, _<_}
+use Prim.Native.Nat.{ℕ, _+_, _-_, _*_, _/_, _≤_, _<_}
 use native.Mathlib.Nat.{mul-div-cancel}
 use native.Mathlib.Omega.{arith}
-use mathlib.Core.Bool.{Bool, cond}
+use mathlib.Core.Bool.{cond}
 use mathlib.Core.Path.{_≡_, refl, sym, ap, _∙_}
 use mathlib.Core.List.{List, [], _∷_, _++_}
 use lib.Dec.{ltb, lit<}
 use lib.ListN.{length, take, drop, length-drop, take-append-drop}
-use lib.Seq.{sets, length-take-le, drop-drop}
+use lib.Seq.{sets, length-take-le}
 use borrow.Author.Tests.{lt-ltb, le-ltb, eq-eqb, ne-eqb}
 use Rattle.wire.specs.Wire.{leAt, leBytes}
 use Rattle.wire.proofs.Laws.{sets-append}
@@ -16,8 +16,8 @@ use Rattle.ray_tracing.specs.declared.Version.{Version}
 use Rattle.ray_tracing.specs.declared.Version.the-variants as version
 use Rattle.ray_tracing.specs.Layout.{versionNumber, size, sizeIn}
 use Rattle.ray_tracing.specs.Layout as layout
-use Rattle.ray_tracing.specs.Reading.{fine, refused, judgeLent, past, from, table, accepted, rejected, readSheet}
-use Rattle.ray_tracing.specs.Canonical.{Writing, wrote, unwritten}
+use Rattle.ray_tracing.specs.Reading.{fine, refused, judgeLent, past, from, table, rejected, readSheet}
+use Rattle.ray_tracing.specs.Canonical.{wrote, unwritten}
 use Rattle.ray_tracing.specs.Conversion.{other, convertedTable, convertedRecords, converted, judgeOffsets, unlessRefused, convertRule, Converts}
 use Rattle.ray_tracing.proofs.Each.{size-positive}
 use Rattle.ray_tracing.proofs.Reading.{past-more, from-more}

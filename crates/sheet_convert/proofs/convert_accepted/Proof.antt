@@ -1,10 +1,8 @@
 -- `sheet_convert::convert_accepted` meets its contract, by what judging the offsets finds and by the room.
-use Prim.Native.Nat.{ℕ, _+_, _-_, _*_, _≤_, _<_}
+use Prim.Native.Nat.{_-_}
 use native.Mathlib.Omega.{arith}
-use mathlib.Core.Path.{_≡_, refl, sym, ap, _∙_}
-use lib.ListN.{length, take, drop}
-use Rattle.ray_tracing.specs.Layout.{sizeIn}
-use Rattle.ray_tracing.proofs.Versions.{geometry-size, offset-width}
+use mathlib.Core.Path.{sym, ap, _∙_}
+use Rattle.ray_tracing.proofs.Versions.{geometry-size}
 use Rattle.sheet_convert.specs.Judged.{offsetsOf}
 use Rattle.sheet_convert.proofs.Calls.{wider, stands, long, far-call, short-call, written-call}
 use borrow.Author.Needs.{needs}

@@ -2,7 +2,7 @@
 use Prim.Native.Nat.{_+_, _-_}
 use native.Mathlib.Omega.{arith}
 use mathlib.Core.Path.{_≡_}
-use Rattle.ray_tracing.proofs.Versions.{geometry-size, offset-width}
+use Rattle.ray_tracing.proofs.Versions.{offset-width}
 use Rattle.sheet_convert.proofs.Laws.{record-written}
 use borrow.Author.Needs.{needs}
 use Rattle.sheet_convert.proofs.convert_record.Statement.{statement}

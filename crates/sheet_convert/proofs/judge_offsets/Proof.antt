@@ -7,7 +7,7 @@ use lib.ListN.{length}
 use Rattle.ray_tracing.specs.Layout.{offsetWidth, sizeIn}
 use Rattle.ray_tracing.specs.Conversion.{judgeOffsets}
 use Rattle.ray_tracing.proofs.Reading.{one-less}
-use Rattle.ray_tracing.proofs.Versions.{geometry-size, offset-width}
+use Rattle.ray_tracing.proofs.Versions.{geometry-size}
 use Rattle.sheet_convert.proofs.Laws.{offsets-next, offsets-far, none-left}
 use borrow.Author.Needs.{needs}
 use borrow.Author.Tests.{not-true, not-false}

@@ -1,11 +1,11 @@
 -- `sheet_convert::write_converted` meets its contract: what it puts are the four parts of the converted sheet.
-use Prim.Native.Nat.{ℕ, _+_, _-_, _*_, _≤_, _<_}
+use Prim.Native.Nat.{_+_, _-_, _*_}
 use native.Mathlib.Omega.{arith}
-use mathlib.Core.Path.{_≡_, refl, sym, ap, _∙_}
+use mathlib.Core.Path.{_≡_, ap}
 use lib.ListN.{length, take, drop, length-take, length-drop}
 use lib.Seq.{length-sets, take-all}
 use Rattle.ray_tracing.specs.Layout.{sizeIn}
-use Rattle.ray_tracing.proofs.Versions.{geometry-size, offset-width}
+use Rattle.ray_tracing.proofs.Versions.{geometry-size}
 use Rattle.sheet_convert.proofs.Calls.{wider, stands, long, whole-written}
 use borrow.Author.Needs.{needs}
 use Rattle.sheet_convert.proofs.write_converted.Statement.{statement}
