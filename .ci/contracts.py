@@ -18,6 +18,7 @@ ENTRY = {
     "validate_acceleration_structure_actions": "submit",
     "append_instance": "instance",
     "append_instances": "instance_many",
+    "read_instances": "instance_read",
     "report": "report",
     "explain": "explain",
 }

@@ -20,6 +20,7 @@ CALLS = {
     "submit": "submit",
     "append": "append_instance",
     "many": "append_instances",
+    "back": "read_instances",
     "open": "open_groups",
 }
 TEXTS = ("report", "explain", "words")
@@ -56,7 +57,7 @@ def main():
         faults.append("the header's numbers are not those of the table of causes")
 
     spoken = set()
-    for file in ("building", "submission", "sheet", "groups", "convert"):
+    for file in ("building", "submission", "sheet", "groups", "convert", "instances"):
         for number, words in re.findall(r"^\s*/// (\d+)(?: in a \w+)?: (.*)$", text(f"bindings/rust/src/{file}.rs"), re.M):
             spoken.add(int(number))
             if words.replace("`", "") != CAUSES[int(number)].words:

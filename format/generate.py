@@ -106,8 +106,8 @@ below; for 1 to 6 another names the field or the id.
 
 E is entry and its geometry, or package and its slot, from 0; the second is 0 where there is none. In the library, a refused table is
 (section, record). "Both" is declared, given. Of groups of slots 2 to 5 have their byte place too. Of many instances in one call E is 0 and
-the position of the refused one, from 0; 0, 0 for the Tlas and for 39. Of a conversion 1 is called "version not 1" or "version not 2", by the
-version that it comes from.
+the position of the refused one, from 0; 0, 0 for the Tlas and for 39. Of instances read back E is the record, from 0, and 0 for 49
+and 50; 0, 0 for 48 and 39. Of a conversion 1 is called "version not 1" or "version not 2", by the version that it comes from.
 """
 
 CONVERTED = """\
@@ -149,6 +149,29 @@ INSTANCES = """\
 
 What `zakvind_append_instances` takes: instances end to end, {bytes} bytes each, a slot's fields after its present byte;
 `zakvind_append_instance` takes one. Bytes left over at the end, less than an instance's, are refused by 5 after the whole ones.
+"""
+
+READ_BACK = """\
+## Instances read back
+
+What `zakvind_read_instances` takes: records end to end, {record} bytes each, as a build and an append write them, which are those
+of VK_KHR_acceleration_structure (VkAccelerationStructureInstanceKHR). All numbers are little-endian.
+
+| At | Width | What it is |
+|---|---|---|
+| 0 | f32 × 12 | the transform, any bits |
+| 48 | u32 | custom data in the low 24 bits, the mask in the high 8 |
+| 52 | u32 | 0 |
+| 56 | u64 | the address of the Blas |
+
+An instance is written for each, {bytes} bytes as above, end to end; its Blas is the one that has the address, and the transform
+keeps its bits, those of a NaN too. Appended, they give the same records again, unless 35 is drawn; what was appended comes back
+as it was, if the address of its Blas stands once in the table.
+
+Judged are, in this order: that the length is in {record}s (48); then for each record in turn that the u32 at 52 is 0 (49) and
+that one Blas has its address (50); then the room (39). Of a refused call nothing is written. All whole records of the table
+count, also more than a sheet may have, and nothing but their addresses is judged. The first 65,536 have an id: an address that
+only a later one has is refused by 50.
 """
 
 
@@ -269,6 +292,7 @@ def page():
     slots = section(8)
     yield GROUPS.format(groups=64, slot=size(slots.fields), most=slots.most, room=slots.most * size(slots.fields), next_one=slots.most + 1)
     yield INSTANCES.format(bytes=size(slots.fields) - 1)
+    yield READ_BACK.format(bytes=size(slots.fields) - 1, record=64)
     yield PRINTED
     yield "| No. | Cause | Returned |\n|---|---|---|"
     yield from (f"| {n} | {c.words} | {c.returned} |" for n, c in CAUSES.items())

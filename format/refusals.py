@@ -56,4 +56,7 @@ CAUSES = {
     45: Cause("count 0, or a group that is not an earlier one", (), "group, item, 0 where there is none"),
     46: Cause("more than 512 slots", (), "group, item: of the 513th slot"),
     47: Cause("first vertex or primitive offset above 2^32 - 1", (), "byte place: of the first that does not fit"),
+    48: Cause("length not in 64s", (), "0, 0"),
+    49: Cause("u32 at byte 52 not 0", (), "record, 0"),
+    50: Cause("address of no Blas or of several", (), "record, 0"),
 }

@@ -14,7 +14,7 @@
  * memmove, memset and memcmp.
  * Stack: zakvind_report and zakvind_explain use at most ZAKVIND_TEXT_STACK_BYTES, zakvind_open_groups ZAKVIND_GROUPS_STACK_BYTES,
  * every other call ZAKVIND_STACK_BYTES. These are bounds on what was measured on x86-64 with the largest tables and sheet, with 512
- * instances in one call, and with 64 groups each inside the next (bindings/c/edges.c), nothing proves them.
+ * instances appended or read back in one call, and with 64 groups each inside the next (bindings/c/edges.c), nothing proves them.
  *
  * Tables are records end to end, little-endian, with the layout of the sheet's sections. zakvind_records.h packs and unpacks
  * each record, and has the bytes of one and the most of each. A sheet is of version 1 or 2: in version 2 a geometry's `first` is a
@@ -75,7 +75,10 @@ enum {
     ZAKVIND_BLAS_NEWER_THAN_TLAS = 44,                    /* Blas, Tlas */
     ZAKVIND_INVALID_GROUP = 45,                           /* of groups: a count of 0, or a group that is not an earlier one */
     ZAKVIND_TOO_MANY_SLOTS = 46,                          /* of groups */
-    ZAKVIND_TOO_FAR = 47                                  /* of zakvind_to_version_1: a first vertex or primitive offset above 2^32 - 1 */
+    ZAKVIND_TOO_FAR = 47,                                 /* of zakvind_to_version_1: a first vertex or primitive offset above 2^32 - 1 */
+    ZAKVIND_UNEVEN_LENGTH = 48,                           /* of zakvind_read_instances: a length not in 64s */
+    ZAKVIND_WORD_NOT_ZERO = 49,                           /* of a record of these: the u32 at byte 52 is not 0 */
+    ZAKVIND_NOT_ONE_BLAS = 50                             /* of a record of these: the address of no Blas or of several */
 };
 
 enum {
@@ -161,6 +164,12 @@ typedef struct {
     uint64_t written;     /* bytes */
 } zakvind_opened;
 
+typedef struct {
+    uint64_t number;
+    uint64_t e0, e1;  /* of 49 and 50 the record, from 0, and 0; 0, 0 for the others */
+    uint64_t written; /* bytes of items; 0 of a refusal */
+} zakvind_instances_read;
+
 /* The room that a build's outputs need, in elements. */
 typedef struct {
     size_t blas_offsets, tlas_offsets, staging_ranges, instances, init_ranges, compactable, lists;
@@ -178,6 +187,9 @@ typedef struct {
 /* The most that zakvind_to_version_2 needs for a sheet of so many bytes; zakvind_to_version_1 needs no more than the sheet has. */
 #define ZAKVIND_ROOM_VERSION_2(sheet_len) \
     ((sheet_len) + ZAKVIND_MOST_GEOMETRIES * (ZAKVIND_WIDE_GEOMETRY_BYTES - ZAKVIND_GEOMETRY_BYTES))
+
+/* What zakvind_read_instances needs for so many bytes of records: to the byte what it writes if it accepts them. */
+#define ZAKVIND_ROOM_ITEMS(records_len) ((records_len) / ZAKVIND_INSTANCE_BYTES * ZAKVIND_INSTANCE_FIELDS_BYTES)
 
 /* The room by whether the geometries are wide; zakvind_room_for and zakvind_room_for_wide are to be called. */
 static inline zakvind_room zakvind_room_by(
@@ -370,6 +382,22 @@ zakvind_appended zakvind_append_instances(
     uint8_t *instances, size_t instances_len,
     uint64_t used);
 
+/* Reads instances back from the bytes that a build or an append wrote, or from other records of VkAccelerationStructureInstanceKHR:
+ * ZAKVIND_INSTANCE_BYTES each, end to end. Writes an item for each, ZAKVIND_INSTANCE_FIELDS_BYTES, end to end, as
+ * zakvind_append_instances takes them: the Blas is the one whose `handle` is the u64 at byte 56, custom data are the low 24 bits of
+ * the u32 at byte 48, the mask is its high 8, and the twelve numbers from byte 0 on are kept by their bits, those of a NaN too.
+ * Appended to any Tlas they give the same records again, unless 35 is drawn; what was appended comes back as it was, if the address
+ * of its Blas stands once in the table.
+ * Refuses by 39 and 48 to 50: first by 48, with e 0, 0, where the length is not in 64s; then for each record in turn, with e the
+ * record, from 0, and 0, by 49 where the u32 at byte 52, which is written as 0, is something else, and by 50 where its address is
+ * that of no Blas or of several; last by 39, with e 0, 0, where there is less room than ZAKVIND_ROOM_ITEMS(records_len); and then
+ * writes nothing. Each whole record of `blases` counts, however many there are, a part of one at the end does not, and nothing but
+ * the addresses is judged. The first 65,536 have an id: an address that only a later one has is refused by 50 as well. */
+zakvind_instances_read zakvind_read_instances(
+    const uint8_t *records, size_t records_len,
+    const uint8_t *blases, size_t blases_len,
+    uint8_t *items, size_t items_len);
+
 /* The lines that the sheet program prints, what is refused among them. Refuses by 39, and then writes nothing; room for
  * ZAKVIND_LONGEST_REPORT is always enough. */
 zakvind_reported zakvind_report(const uint8_t *sheet, size_t sheet_len, uint8_t *out, size_t out_len);
@@ -382,15 +410,16 @@ zakvind_reported zakvind_explain(const uint8_t *sheet, size_t sheet_len, uint8_t
  * region 960, size 959"; number 0 gives "nothing is refused". What a call doesn't have is given as 0. Refuses by 39, and then
  * writes nothing; room for ZAKVIND_LONGEST_WORDS is always enough. */
 enum {
-    ZAKVIND_CALL_SHEET = 1,        /* e0 is the place */
-    ZAKVIND_CALL_BUILD = 2,        /* of zakvind_build_wide too */
-    ZAKVIND_CALL_SUBMISSION = 3,   /* e0 is the action, e1 its kind, 0 where that is not known */
+    ZAKVIND_CALL_SHEET = 1,          /* e0 is the place */
+    ZAKVIND_CALL_BUILD = 2,          /* of zakvind_build_wide too */
+    ZAKVIND_CALL_SUBMISSION = 3,     /* e0 is the action, e1 its kind, 0 where that is not known */
     ZAKVIND_CALL_APPEND = 4,
-    ZAKVIND_CALL_WRITE = 5,        /* e0 is the place */
-    ZAKVIND_CALL_GROUPS = 6,       /* e0 is the place; of 45 and 46 e0 is the group and e1 the item */
-    ZAKVIND_CALL_APPEND_MANY = 7,  /* e1 is the position; of 6 it may be 0 for the Tlas too, and the words say so */
-    ZAKVIND_CALL_TO_VERSION_2 = 8, /* e0 is the place */
-    ZAKVIND_CALL_TO_VERSION_1 = 9  /* e0 is the place */
+    ZAKVIND_CALL_WRITE = 5,          /* e0 is the place */
+    ZAKVIND_CALL_GROUPS = 6,         /* e0 is the place; of 45 and 46 e0 is the group and e1 the item */
+    ZAKVIND_CALL_APPEND_MANY = 7,    /* e1 is the position; of 6 it may be 0 for the Tlas too, and the words say so */
+    ZAKVIND_CALL_TO_VERSION_2 = 8,   /* e0 is the place */
+    ZAKVIND_CALL_TO_VERSION_1 = 9,   /* e0 is the place */
+    ZAKVIND_CALL_READ_INSTANCES = 10 /* e0 is the record */
 };
 zakvind_reported zakvind_words(
     uint64_t call, uint64_t number, uint64_t e0, uint64_t e1, uint64_t f0, uint64_t f1, uint64_t f2, uint8_t *out, size_t out_len);

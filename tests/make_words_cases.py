@@ -10,8 +10,8 @@ from printed import CALLS, words
 
 
 def cases():
-    for call in (*range(12), U64):
-        for number in (*range(50), U64 - 1, U64):
+    for call in (*range(13), U64):
+        for number in (*range(53), U64 - 1, U64):
             yield call, number, 1, 2, 3, 4, 5
             yield call, number, U64, U64, U64, U64, U64
     for f0 in (*range(6), U64):
@@ -29,6 +29,9 @@ def cases():
     for place in (0, 1, 30, 56415, 57439, 2**32 - 1, 2**32, U64):
         for call in (1, 5, 8, 9):
             yield from ((call, number, place, 22, 23, 24, 25) for number in (*range(1, 6), 39, 46, 47, 48))
+    for e0 in (0, 1, 2, 63, 64, 511, 2**32 - 1, 2**32, U64 - 1, U64):
+        for number in (0, *CALLS[10]):
+            yield from ((10, number, e0, e1, 26, 27, 28) for e1 in (0, U64))
     rng = random.Random(27)
     for _ in range(300):
         call = rng.choice(list(CALLS))

@@ -56,7 +56,7 @@ def explanation(refusal):
 
 
 # the numbers that a call refuses with: 1 reads a sheet, 2 builds, 3 submits, 4 appends an instance, 5 writes a sheet, 6 opens groups,
-# 7 appends many instances, 8 converts a sheet to version 2, 9 converts one to version 1
+# 7 appends many instances, 8 converts a sheet to version 2, 9 converts one to version 1, 10 reads instances
 CALLS = {
     1: range(1, 6),
     2: (4, 5, 6, *range(10, 40)),
@@ -67,6 +67,7 @@ CALLS = {
     7: (5, 6, 34, 35, 39),
     8: (*range(1, 6), 39),
     9: (*range(1, 6), 39, 47),
+    10: (39, 48, 49, 50),
 }
 # the version that a conversion comes from: "1 also for the other way's version"
 COMES_FROM = {8: 1, 9: 2}
@@ -84,6 +85,8 @@ def words(call, number, e0, e1, f0, f1, f2):
         # the Tlas's 6 is at 0 too
         which = "Tlas or instance" if (number, e1) == (6, 0) else "instance"
         return f"refused {number}: {CAUSES[number].words}, {which} {e1}\n"
+    if call == 10 and number in (49, 50):
+        return f"refused {number}: {CAUSES[number].words}, record {e0}\n"
     if call in COMES_FROM and number == 1:
         return f"refused 1: version not {COMES_FROM[call]}, byte {e0}\n"
     if call == 1 or (call in (5, 6, 8, 9) and number != 39):

@@ -1,7 +1,8 @@
 /* The header against the library: records packed and unpacked, the room of a build, scratch that reaches 2^64 - 1, builds of either width,
  * empty tables, a sheet written anew, one of each version converted to the other, opened groups, words, a refused append, many instances in
- * one call, how much stack each call uses, with the largest tables, sheet and groups, and how often a build divides. Every answer is held
- * against what it must be. OTHER_LIBRARY: one that stands in for ours may use more stack and divide. */
+ * one call, instances read back, how much stack each call uses, with the largest tables, sheet and groups, and how often a build
+ * divides. Every answer is held against what it must be. OTHER_LIBRARY: one that stands in for ours may use more stack and
+ * divide. */
 #define _GNU_SOURCE
 #include <zakvind.h>
 
@@ -509,6 +510,18 @@ static void nothing(void)
     must(a.number == ZAKVIND_INVALID_RESOURCE && a.used == 0, "no instances of no Tlas");
     a = zakvind_append_instances(tlases, ZAKVIND_TLAS_BYTES, none, 0, 0, none, 0, none, 0, 0);
     must(a.number == 0 && a.used == 0, "no instances of a Tlas");
+    uint8_t record[ZAKVIND_INSTANCE_BYTES] = {0};
+    zakvind_put(record + 56, 8, zakvind_unpack_blas(blases).handle);
+    zakvind_instances_read r = zakvind_read_instances(none, 0, none, 0, none, 0);
+    must(r.number == 0 && r.e0 == 0 && r.e1 == 0 && r.written == 0, "no records over no Blases");
+    r = zakvind_read_instances(none, 0, blases, sizeof blases, none, 0);
+    must(r.number == 0 && r.written == 0, "no records over Blases");
+    r = zakvind_read_instances(record, sizeof record, none, 0, none, 0);
+    must(r.number == ZAKVIND_NOT_ONE_BLAS && r.e0 == 0 && r.written == 0, "a record over no Blases");
+    r = zakvind_read_instances(record, sizeof record, blases, sizeof blases, none, 0);
+    must(r.number == ZAKVIND_OUTPUT_TOO_SHORT && r.e0 == 0 && r.written == 0, "a record without room");
+    r = zakvind_read_instances(record, 1, none, 0, none, 0);
+    must(r.number == ZAKVIND_UNEVEN_LENGTH && r.e0 == 0 && r.written == 0, "a byte of a record");
     must(zakvind_report(none, 0, none, 0).number == ZAKVIND_OUTPUT_TOO_SHORT, "a text without room");
 }
 
@@ -938,6 +951,218 @@ static void many_refused(void)
     }
 }
 
+/* ---- instances read back */
+
+/* more Blases than have an id, and a part of one */
+enum { PAST_IDS = 65541 };
+static uint8_t addressed[PAST_IDS * ZAKVIND_BLAS_BYTES + ZAKVIND_BLAS_BYTES - 1];
+static uint8_t stored[ZAKVIND_MOST_SLOTS * ONE], again_items[ZAKVIND_ROOM_ITEMS(sizeof stored) + AROUND];
+
+static uint64_t address_of(size_t i) { return 0x7f0000000000 + 256 * (uint64_t)i; }
+static void put_address(size_t i, uint64_t address) { zakvind_put(addressed + i * ZAKVIND_BLAS_BYTES + 12, 8, address); }
+
+/* a record with such a u32 at byte 52 and such an address, all else any bits */
+static void put_record(size_t k, uint32_t word, uint64_t address)
+{
+    uint8_t *at = stored + k * ONE;
+    for (size_t i = 0; i < 52; i++)
+        at[i] = random_byte();
+    zakvind_put(at + 52, 4, word);
+    zakvind_put(at + 56, 8, address);
+}
+
+/* So many bytes of records over so many bytes of Blases into so much room: what is past the items is kept, of a refusal all. */
+static zakvind_instances_read reads_back(size_t bytes, size_t blas_bytes, size_t room)
+{
+    memset(again_items, 0x5a, sizeof again_items);
+    const zakvind_instances_read a = zakvind_read_instances(stored, bytes, addressed, blas_bytes, again_items, room);
+    must(a.e1 == 0 && a.written == (a.number ? 0 : ZAKVIND_ROOM_ITEMS(bytes)), "items for all records, or none");
+    must(a.e0 == 0 || a.number == ZAKVIND_WORD_NOT_ZERO || a.number == ZAKVIND_NOT_ONE_BLAS, "a record of 49 and 50 only");
+    must(a.written <= room && all(again_items + a.written, sizeof again_items - a.written, 0x5a), "what is past the items is kept");
+    return a;
+}
+
+static int not_read(zakvind_instances_read a, uint64_t number, uint64_t record) { return a.number == number && a.e0 == record; }
+
+/* One record with this address: its Blas, or 50. */
+static int finds(size_t blas_bytes, uint64_t address, size_t blas)
+{
+    put_record(0, 0, address);
+    return reads_back(ONE, blas_bytes, ITEM).number == 0 && zakvind_get_u16(again_items) == blas;
+}
+static int finds_none(size_t blas_bytes, uint64_t address)
+{
+    put_record(0, 0, address);
+    return not_read(reads_back(ONE, blas_bytes, ITEM), ZAKVIND_NOT_ONE_BLAS, 0);
+}
+
+static zakvind_appended appends_items(uint16_t tlas, size_t blas_bytes, const uint8_t *from, size_t bytes)
+{
+    return zakvind_append_instances(returning, sizeof returning, addressed, blas_bytes, tlas, from, bytes, many, sizeof many, 0);
+}
+
+static void there_and_back(void)
+{
+    static const size_t counts[] = {0, 1, 2, 40, ZAKVIND_MOST_SLOTS}, tables[] = {1, 2, 127, 128, 129, 256};
+    size_t without_vertices = 0;
+    for (size_t i = 0; i < sizeof addressed; i++)
+        addressed[i] = random_byte(); /* nothing of a Blas but its address is judged */
+    for (size_t i = 0; i < PAST_IDS; i++)
+        put_address(i, address_of(i));
+    for (size_t i = 0; i < sizeof tables / sizeof *tables; i++)
+        for (size_t j = 0; j < sizeof counts / sizeof *counts; j++) {
+            const size_t n = tables[i] * ZAKVIND_BLAS_BYTES, bytes = counts[j] * ONE, room = counts[j] * ITEM;
+            must(room == ZAKVIND_ROOM_ITEMS(bytes), "the room that is said");
+            /* any records to items, and these to the same records */
+            for (size_t k = 0; k < counts[j]; k++)
+                put_record(k, 0, address_of(random_byte() % tables[i]));
+            must(not_read(reads_back(bytes, n, room), 0, 0), "records with exactly their room");
+            for (size_t k = 0; k < counts[j]; k++) {
+                const uint8_t *item = again_items + k * ITEM, *from = stored + k * ONE;
+                must(address_of(zakvind_get_u16(item)) == zakvind_get_u64(from + 56), "the Blas of its address");
+                must(zakvind_get_u32(item + 2) == (zakvind_get_u32(from + 48) & 0xffffff), "24 bits of custom data");
+                must(item[6] == from[51], "8 bits of mask");
+                must(memcmp(item + 7, from, 48) == 0, "numbers by their bits");
+            }
+            must(appends_items(0, n, again_items, room).number == 0 && memcmp(many, stored, bytes) == 0, "the same records again");
+            const uint64_t number = appends_items(1, n, again_items, room).number;
+            const int missing = number == ZAKVIND_TLAS_DEPENDENT_MISSING_VERTEX_RETURN;
+            must(missing || (number == 0 && memcmp(many, stored, bytes) == 0), "or 35");
+            without_vertices += (size_t)missing;
+            /* any items to records, and these to the same items */
+            put_items((uint16_t)tables[i]);
+            must(appends_items(0, n, items, room).number == 0, "items appended");
+            memcpy(stored, many, bytes);
+            must(not_read(reads_back(bytes, n, room + AROUND), 0, 0), "what was appended, with more room");
+            must(memcmp(again_items, items, room) == 0, "the same items again");
+            for (size_t less = 1; less <= room; less += less < ITEM ? 1 : 997)
+                must(not_read(reads_back(bytes, n, room - less), ZAKVIND_OUTPUT_TOO_SHORT, 0), "less room");
+        }
+    must(without_vertices > 0, "35 was drawn too");
+}
+
+/* zeros, subnormals, normals, infinities, signalling and quiet NaNs, of both signs and in each place */
+static void numbers_by_their_bits(void)
+{
+    static const uint32_t bits[] = {0,          1,          0x007fffff, 0x00800000, 0x3f800000, 0x7f7fffff, 0x7f800000, 0x7f800001,
+                                    0x7f923456, 0x7fa00000, 0x7fbfffff, 0x7fc00000, 0x7fc00001, 0x7fe00000, 0x7fffffff};
+    for (size_t i = 0; i < 2 * (sizeof bits / sizeof *bits); i++)
+        for (size_t place = 0; place < 12; place++) {
+            const uint32_t number = bits[i / 2] | (uint32_t)(i % 2) << 31;
+            uint8_t slot[ZAKVIND_SLOT_BYTES] = {1}, packed[ZAKVIND_SLOT_BYTES];
+            put_record(0, 0, address_of(1));
+            zakvind_put(stored + 4 * place, 4, number);
+            must(not_read(reads_back(ONE, 2 * ZAKVIND_BLAS_BYTES, ITEM), 0, 0), "a number of any bits");
+            must(zakvind_get_u32(again_items + 7 + 4 * place) == number, "each by its bits");
+            /* an item behind a byte 1 is a slot */
+            memcpy(slot + 1, again_items, ITEM);
+            const zakvind_slot r = zakvind_unpack_slot(slot);
+            zakvind_pack_slot(packed, &r);
+            must(memcmp(packed, slot, sizeof slot) == 0, "and so as a float");
+        }
+}
+
+static void addresses_found(void)
+{
+    static const size_t tables[] = {127, 128, 129};
+    const uint64_t ends[] = {0, UINT64_MAX}, far = 0xa5a5a5a5a5a5a5a5;
+    for (size_t i = 0; i < sizeof tables / sizeof *tables; i++) {
+        const size_t n = tables[i], bytes = n * ZAKVIND_BLAS_BYTES;
+        for (size_t k = 0; k < n; k++)
+            must(finds(bytes, address_of(k), k), "each of a table");
+        must(finds_none(bytes, address_of(n)), "one that is past it");
+        for (size_t k = 0; k < 2; k++) {
+            const size_t other = n - 1 - 63 * k;
+            must(finds_none(bytes, ends[k]), "0 and 2^64 - 1 of none");
+            put_address(3, ends[k]);
+            must(finds(bytes, ends[k], 3) && finds_none(bytes, address_of(3)), "0 and 2^64 - 1 of one");
+            must(finds_none(bytes, ends[1 - k]), "and the other of none");
+            put_address(other, ends[k]);
+            must(finds_none(bytes, ends[k]), "0 and 2^64 - 1 of two");
+            put_address(3, address_of(3));
+            must(finds(bytes, ends[k], other) && finds(bytes, address_of(3), 3), "and of one again");
+            put_address(other, address_of(other));
+        }
+        /* every bit of an address counts */
+        put_address(3, far);
+        for (int bit = 0; bit < 64; bit++) {
+            const uint64_t near = far ^ (uint64_t)1 << bit;
+            must(finds_none(bytes, near), "one that differs in a bit");
+            put_address(n - 2, near);
+            must(finds(bytes, near, n - 2) && finds(bytes, far, 3), "two that differ in a bit");
+            put_address(n - 2, address_of(n - 2));
+        }
+        put_address(3, address_of(3));
+        /* each one's once more: of the one beside it, of the last, of both */
+        for (size_t k = 0; k + 1 < n; k++)
+            for (int of = 1; of < 4; of++) {
+                const size_t others[] = {k + 1, n - 1};
+                for (size_t j = 0; j < 2; j++)
+                    if (of >> j & 1)
+                        put_address(others[j], address_of(k));
+                must(finds_none(bytes, address_of(k)), "an address of two or three");
+                must(finds_none(bytes, address_of(others[of > 1])), "and one of none");
+                for (size_t j = 0; j < 2; j++)
+                    put_address(others[j], address_of(others[j]));
+            }
+        /* a part of a Blas is none */
+        for (size_t part = 1; part < ZAKVIND_BLAS_BYTES; part++) {
+            must(finds_none(bytes - part, address_of(n - 1)), "a part alone");
+            put_address(n, address_of(5));
+            must(finds(bytes + ZAKVIND_BLAS_BYTES - part, address_of(5), 5), "a part beside a whole one");
+            put_address(n, address_of(n));
+        }
+    }
+    const size_t bytes = PAST_IDS * ZAKVIND_BLAS_BYTES;
+    must(finds(bytes, address_of(0), 0) && finds(bytes, address_of(65535), 65535), "the first and the last id");
+    must(finds_none(bytes, address_of(65536)) && finds_none(bytes, address_of(PAST_IDS - 1)), "past the last id");
+    put_address(65540, address_of(5));
+    must(finds_none(bytes, address_of(5)) && finds(bytes, address_of(6), 6), "of two, one of which has no id");
+    must(finds(65540 * ZAKVIND_BLAS_BYTES, address_of(5), 5), "without the second");
+    put_address(65540, address_of(65540));
+}
+
+static void not_read_back(void)
+{
+    static const size_t positions[] = {0, 1, 17, 39};
+    const size_t n = 128 * ZAKVIND_BLAS_BYTES, bytes = 40 * ONE, room = 40 * ITEM;
+    const uint64_t none = address_of(128);
+    /* the length before all */
+    put_record(0, 1, none);
+    put_record(1, 0, none);
+    for (size_t length = 1; length < 2 * ONE; length++) {
+        const uint64_t number = length % ONE ? ZAKVIND_UNEVEN_LENGTH : ZAKVIND_WORD_NOT_ZERO;
+        must(not_read(reads_back(length, n, 0), number, 0), "a length not in 64s");
+        must(not_read(reads_back(length, n, room), number, 0), "with room too");
+    }
+    /* each record in turn, of one the u32 before the address, and the room last */
+    for (size_t i = 0; i < sizeof positions / sizeof *positions; i++) {
+        const size_t k = positions[i];
+        for (size_t j = 0; j < 40; j++)
+            put_record(j, 0, address_of(j));
+        must(not_read(reads_back(bytes, n, room), 0, 0), "all are fine");
+        for (int bit = 0; bit < 32; bit++) {
+            put_record(k, (uint32_t)1 << bit, bit % 2 ? none : address_of(k));
+            must(not_read(reads_back(bytes, n, bit % 3 ? 0 : room), ZAKVIND_WORD_NOT_ZERO, k), "each bit of the u32");
+        }
+        put_record(k, 0, none);
+        must(not_read(reads_back(bytes, n, room), ZAKVIND_NOT_ONE_BLAS, k), "an address of none");
+        must(not_read(reads_back(bytes, n, 0), ZAKVIND_NOT_ONE_BLAS, k), "before the room");
+        must(not_read(reads_back(bytes - 1, n, 0), ZAKVIND_UNEVEN_LENGTH, 0), "after the length");
+        must(not_read(reads_back(k * ONE, n, k * ITEM), 0, 0), "the ones before it are fine");
+        if (k < 39) {
+            put_record(k + 1, 1, none);
+            must(not_read(reads_back(bytes, n, 0), ZAKVIND_NOT_ONE_BLAS, k), "the first of two");
+            put_record(k, 0, address_of(k));
+            must(not_read(reads_back(bytes, n, 0), ZAKVIND_WORD_NOT_ZERO, k + 1), "the second, as the first is fine");
+        }
+    }
+    /* as many as there are slots, and items of the largest table, for the stack */
+    for (size_t k = 0; k < ZAKVIND_MOST_SLOTS; k++)
+        put_record(k, 0, address_of(k % ZAKVIND_MOST_BLASES));
+    put_items(ZAKVIND_MOST_BLASES);
+}
+
 /* ---- words */
 
 static uint8_t text[ZAKVIND_LONGEST_EXPLAINED];
@@ -999,6 +1224,26 @@ static void words(void)
         must(told.written == n && memcmp(text, of_versions[i].line, n) == 0, "the words of versions");
     }
     static const struct {
+        uint64_t number, record;
+        const char *line;
+    } of_records[] = {
+        {ZAKVIND_ACCEPTED, 7, "nothing is refused\n"},
+        {ZAKVIND_UNEVEN_LENGTH, 7, "refused 48: length not in 64s\n"},
+        {ZAKVIND_WORD_NOT_ZERO, 7, "refused 49: u32 at byte 52 not 0, record 7\n"},
+        {ZAKVIND_NOT_ONE_BLAS, 0, "refused 50: address of no Blas or of several, record 0\n"},
+        {ZAKVIND_NOT_ONE_BLAS, UINT64_MAX, "refused 50: address of no Blas or of several, record 18446744073709551615\n"},
+        {ZAKVIND_OUTPUT_TOO_SHORT, 7, "refused 39: lent output too short\n"},
+        {ZAKVIND_TOO_FAR, 7, "refused 47: no such cause\n"},
+        {ZAKVIND_TLAS_DEPENDENT_MISSING_VERTEX_RETURN, 7, "refused 35: no such cause\n"},
+        {51, 7, "refused 51: no such cause\n"},
+    };
+    for (size_t i = 0; i < sizeof of_records / sizeof *of_records; i++) {
+        const size_t n = strlen(of_records[i].line);
+        told = zakvind_words(ZAKVIND_CALL_READ_INSTANCES, of_records[i].number, of_records[i].record, 0, 0, 0, 0, text,
+                             sizeof text);
+        must(told.written == n && memcmp(text, of_records[i].line, n) == 0, "the words of records");
+    }
+    static const struct {
         uint64_t e0, f0;
         const char *line;
     } of_scratch[] = {
@@ -1014,8 +1259,8 @@ static void words(void)
         told = zakvind_words(ZAKVIND_CALL_BUILD, ZAKVIND_OUT_OF_MEMORY, of_scratch[i].e0, 0, of_scratch[i].f0, 0, 0, text, sizeof text);
         must(told.written == n && memcmp(text, of_scratch[i].line, n) == 0, "the words of an entry or a package");
     }
-    for (uint64_t call = 0; call < 11; call++)
-        for (uint64_t number = 0; number < 50; number++)
+    for (uint64_t call = 0; call < 12; call++)
+        for (uint64_t number = 0; number < 53; number++)
             for (uint64_t e = 0; e < 6; e++) {
                 const uint64_t top = UINT64_MAX;
                 must(zakvind_words(call, number, top, e, top, top, top, text, ZAKVIND_LONGEST_WORDS).number == 0, "the longest words");
@@ -1084,6 +1329,13 @@ static void appends_many(void)
     must(a.number == 0 && a.used == ZAKVIND_MOST_SLOTS * ONE, "512 instances");
 }
 
+/* over the most Blases that a sheet has, and over one more */
+static void reads_many(void)
+{
+    for (size_t n = ZAKVIND_MOST_BLASES; n <= ZAKVIND_MOST_BLASES + 1; n++)
+        must(not_read(reads_back(sizeof stored, n * ZAKVIND_BLAS_BYTES, sizeof again_items), 0, 0), "512 records");
+}
+
 static void explains(void)
 {
     told = zakvind_explain(sheet, sizeof sheet, text, sizeof text);
@@ -1131,6 +1383,7 @@ static void stacks(void)
         {"submit", submits, ZAKVIND_STACK_BYTES},
         {"append_instance", appends, ZAKVIND_STACK_BYTES},
         {"append_instances", appends_many, ZAKVIND_STACK_BYTES},
+        {"read_instances", reads_many, ZAKVIND_STACK_BYTES},
         {"report", reports, ZAKVIND_TEXT_STACK_BYTES},
         {"explain", explains, ZAKVIND_TEXT_STACK_BYTES},
         {"words", speaks, ZAKVIND_STACK_BYTES},
@@ -1263,9 +1516,14 @@ int main(void)
     refused_append();
     many_as_one_by_one();
     many_refused();
+    there_and_back();
+    numbers_by_their_bits();
+    addresses_found();
+    not_read_back();
     words();
     stacks();
     divisions();
-    puts("C: records, room, scratch, wide builds, empty tables, written and converted sheets, opened groups, appends and stack are as is said");
+    puts("C: records, room, scratch, wide builds, empty tables, written and converted sheets, opened groups, appends, instances "
+         "read back and stack are as is said");
     return 0;
 }

@@ -98,6 +98,15 @@ int main(void)
     a = zakvind_append_instances(tlases, sizeof tlases, blases, sizeof blases, 0, items, sizeof items, two, sizeof two, 0);
     must(a.number == ZAKVIND_INVALID_RESOURCE && a.e0 == 0 && a.e1 == 1 && a.used == 0, "the second one refused");
 
+    /* both read back: the Blas by its address */
+    uint8_t again[ZAKVIND_ROOM_ITEMS(sizeof two)];
+    zakvind_instances_read i = zakvind_read_instances(two, sizeof two, blases, sizeof blases, again, sizeof again);
+    must(i.number == 0 && i.written == sizeof again, "reading back");
+    must(memcmp(again, slots + 1, 55) == 0 && memcmp(again + 55, slots + 1, 55) == 0, "as they were");
+    two[64 + 56] = 0; /* another address */
+    i = zakvind_read_instances(two, sizeof two, blases, sizeof blases, again, sizeof again);
+    must(i.number == ZAKVIND_NOT_ONE_BLAS && i.e0 == 1 && i.written == 0, "an address of no Blas");
+
     /* what was recorded, and a use */
     zakvind_command_indices indices = {0, 5};
     uint16_t dependency_counts[1] = {0}, dependencies[ZAKVIND_TLAS_ROOM] = {0};

@@ -62,6 +62,11 @@ fn main() -> Result<(), Box<dyn std::error::Error>> {
     let nowhere = TlasInstance { blas: BlasId(1), ..instance };
     let refused = append_instances(&tlases, &blases, TlasId(0), &[instance, nowhere], &mut two, 0).expect_err("there is no Blas 1");
     assert_eq!((refused.number, refused.position, refused.used), (6, Some(1), 0));
+    // and read back, the signalling NaN too
+    assert_eq!(read_instances(&two, &blases)?, [instance; 2]);
+    two[64 + 52] = 1;
+    let refused = read_instances(&two, &blases).expect_err("the second one's byte 52 is 1");
+    assert_eq!((refused.error, refused.record), (ReadInstancesError::WordNotZero, Some(1)));
 
     // what was recorded, and a use; then the Blas is marked as built again, and the Tlas is older
     let mut indices = CommandIndices { active_submission_index: 0, next_acceleration_structure_build_command_index: 5 };

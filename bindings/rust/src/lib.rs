@@ -31,6 +31,8 @@
 //! A geometry may begin past 2^32: [`table`] writes it as version 2 of the sheet has it. Tables that are read from a sheet keep its
 //! [`Version`], and those of either are built; [`to_version_2`] and [`to_version_1`] write a sheet of one as one of the other.
 //!
+//! The bytes that a build or an append wrote for instances are read back by [`read_instances`], each number by its bits.
+//!
 //! The package finds the static library in the folder `ZAKVIND_LIB_DIR`, beside itself, in the prefix that it is installed in, or
 //! where the repository's `rt staticlib capi` puts it.
 #![deny(missing_docs)]
@@ -41,6 +43,7 @@ mod building;
 mod convert;
 mod format;
 mod groups;
+mod instances;
 mod layout;
 mod misfit;
 mod naming;
@@ -57,6 +60,7 @@ pub use building::{
 pub use convert::{ConvertError, ConvertRefused, to_version_1, to_version_2, version_1_of, version_2_of};
 pub use format::{Allowed, Field, KindOf, Section, Used, Version};
 pub use groups::{MOST_GROUPS, OpenRefused, open_groups, opened_slots};
+pub use instances::{ReadInstancesError, ReadInstancesRefused, read_instances};
 pub use layout::*;
 pub use misfit::{At, May, Misfit};
 pub use raw::CommandIndices;

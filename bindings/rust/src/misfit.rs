@@ -106,6 +106,18 @@ pub enum Misfit {
         /// how many records that has
         records: u64,
     },
+    /// An address that is not that of one Blas with an id.
+    #[non_exhaustive]
+    Address {
+        /// where it stands
+        at: At,
+        /// the address
+        address: u64,
+        /// the first Blas that has it
+        first: Option<usize>,
+        /// how many have it
+        blases: usize,
+    },
 }
 
 /// Where something stands.
@@ -130,6 +142,8 @@ pub enum At {
     Slot(usize, usize),
     /// one of many appended instances
     Instance(usize),
+    /// a record of instances that are read back
+    InstanceRecord(usize),
     /// what a Tlas lists before a submission
     Start(usize),
     /// an action
@@ -185,6 +199,7 @@ impl fmt::Display for At {
             At::Package(package) => write!(f, "package {package}: "),
             At::Slot(package, slot) => write!(f, "package {package}, slot {slot}: "),
             At::Instance(instance) => write!(f, "instance {instance}: "),
+            At::InstanceRecord(record) => write!(f, "record {record}: "),
             At::Start(tlas) => write!(f, "starting list of tlas {tlas}: "),
             At::Action(action) => write!(f, "action {action}: "),
             At::Listed(action, tlas) => write!(f, "action {action}, list of its tlas {tlas}: "),
@@ -227,6 +242,14 @@ impl fmt::Display for Misfit {
                     0 => write!(f, "there are no {}", of.name),
                     1 => write!(f, "there is 1 {}", of.one),
                     n => write!(f, "there are {n} {}", of.name),
+                }
+            }
+            Misfit::Address { at, address, first, blases } => {
+                write!(f, "{at}address is {address:#x}, ")?;
+                match (first, blases) {
+                    (None, _) => write!(f, "no blas has it"),
+                    (Some(first), 1) => write!(f, "only blas {first} has it, ids end at {}", u16::MAX),
+                    (Some(first), n) => write!(f, "{n} blases have it, the first is blas {first}"),
                 }
             }
         }

@@ -120,8 +120,20 @@ pub struct Opened {
     pub written: u64,
 }
 
+/// `zakvind_instances_read`: what reading instances back came to.
+#[repr(C)]
+#[derive(Clone, Copy, Debug, PartialEq, Eq)]
+pub struct InstancesRead {
+    /// 0, or why they are refused
+    pub number: u64,
+    /// of 49 and 50 the record and 0
+    pub e: [u64; 2],
+    /// bytes of items
+    pub written: u64,
+}
+
 mod ffi {
-    use super::{Appended, Built, CommandIndices, Opened, Reported, Sheet, Submitted, Written};
+    use super::{Appended, Built, CommandIndices, InstancesRead, Opened, Reported, Sheet, Submitted, Written};
 
     /// A build takes the same with geometries of either width.
     macro_rules! builds {
@@ -209,6 +221,14 @@ mod ffi {
             instances_len: usize,
             used: u64,
         ) -> Appended;
+        pub fn zakvind_read_instances(
+            records: *const u8,
+            records_len: usize,
+            blases: *const u8,
+            blases_len: usize,
+            items: *mut u8,
+            items_len: usize,
+        ) -> InstancesRead;
         pub fn zakvind_report(sheet: *const u8, sheet_len: usize, out: *mut u8, out_len: usize) -> Reported;
         pub fn zakvind_explain(sheet: *const u8, sheet_len: usize, out: *mut u8, out_len: usize) -> Reported;
         pub fn zakvind_words(
@@ -357,6 +377,13 @@ pub fn append_instances(tlases: &[u8], blases: &[u8], tlas: u16, items: &[u8], i
             instances.len(),
             used,
         )
+    }
+}
+
+/// `zakvind_read_instances`; `records` are 64 bytes each and `items` 55, end to end.
+pub fn read_instances(records: &[u8], blases: &[u8], items: &mut [u8]) -> InstancesRead {
+    unsafe {
+        ffi::zakvind_read_instances(records.as_ptr(), records.len(), blases.as_ptr(), blases.len(), items.as_mut_ptr(), items.len())
     }
 }
 

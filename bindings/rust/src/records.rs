@@ -540,6 +540,16 @@ impl TlasInstance {
         bytes.iter_mut().zip(fields.chain(numbers)).for_each(|(to, from)| *to = from);
         bytes
     }
+
+    /// The instance that has these bytes.
+    pub fn from_bytes(bytes: &[u8; 55]) -> Self {
+        let [b0, b1, c0, c1, c2, c3, mask, numbers @ ..] = *bytes;
+        let mut transform = [0.0; 12];
+        let (patterns, _) = numbers.as_chunks::<4>();
+        transform.iter_mut().zip(patterns).for_each(|(x, pattern)| *x = f32::from_bits(u32::from_le_bytes(*pattern)));
+        let (blas, custom_data) = (BlasId(u16::from_le_bytes([b0, b1])), u32::from_le_bytes([c0, c1, c2, c3]));
+        TlasInstance { blas, custom_data, mask, transform }
+    }
 }
 
 /// A slot, present or not.
@@ -554,10 +564,7 @@ impl Record for Option<TlasInstance> {
 
     fn get(mut r: Reader) -> Option<Self> {
         let present = r.bit()?;
-        let mut instance = TlasInstance { blas: BlasId(r.u16()?), custom_data: r.u32()?, mask: r.u8()?, ..TlasInstance::default() };
-        for x in &mut instance.transform {
-            *x = f32::from_bits(r.u32()?);
-        }
+        let instance = TlasInstance::from_bytes(&r.take()?);
         Some(present.then_some(instance))
     }
 }

@@ -13,6 +13,7 @@ pub(crate) enum Call {
     AppendMany,
     ToVersion2,
     ToVersion1,
+    ReadInstances,
 }
 
 impl Call {
@@ -27,6 +28,7 @@ impl Call {
             Call::AppendMany => 7,
             Call::ToVersion2 => 8,
             Call::ToVersion1 => 9,
+            Call::ReadInstances => 10,
         }
     }
 }

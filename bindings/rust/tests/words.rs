@@ -9,7 +9,7 @@ use zakvind::raw;
 fn words_are_those_of_the_table() {
     let values = [0, 1, 2, 3, 4, 9, 10, 65_535, u64::from(u32::MAX), u64::MAX];
     let mut out = [0; 300];
-    for call in (0..11).chain([u64::MAX]) {
+    for call in (0..12).chain([u64::MAX]) {
         for number in (0..60).chain([u64::MAX]) {
             for (i, value) in values.iter().enumerate() {
                 let other = |k: usize| values[(i + k) % values.len()];

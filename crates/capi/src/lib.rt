@@ -4,6 +4,7 @@ use capi_answers::append_answer;
 use capi_answers::append_many_answer;
 use capi_answers::build_answer;
 use capi_answers::convert_answer;
+use capi_answers::instances_answer;
 use capi_answers::open_answer;
 use capi_answers::report_answer;
 use capi_answers::sheet_answer;
@@ -13,9 +14,11 @@ use groups::open_groups;
 use instance::append_instance;
 use instance_bytes::instance_from;
 use instance_many::append_instances;
+use instance_read::read_instances;
 use ray_tracing::AppendAnswer;
 use ray_tracing::BuildAnswer;
 use ray_tracing::CommandIndices;
+use ray_tracing::InstancesAnswer;
 use ray_tracing::LENT_SIZE;
 use ray_tracing::OpenAnswer;
 use ray_tracing::ReportAnswer;
@@ -41,11 +44,13 @@ ghost use Rattle.ray_tracing.specs.Groups.{OpensGroupsAs};
 ghost use Rattle.ray_tracing.specs.Plan.{tablesOf, outputsOf, BuildsAs};
 ghost use Rattle.ray_tracing.specs.Instances.{instanceFrom, AppendsAs};
 ghost use Rattle.ray_tracing.specs.AppendMany.{AppendsManyAs};
+ghost use Rattle.ray_tracing.specs.ReadInstances.{ReadsInstancesAs};
 ghost use Rattle.ray_tracing.specs.Submission.{buffersOf, pieceOf, Validates};
 ghost use Rattle.ray_tracing.specs.Report as Report;
 ghost use Rattle.ray_tracing.specs.Report.{PutsAs};
 ghost use Rattle.ray_tracing.specs.Explain.{explained, wordsOf};
-ghost use Rattle.ray_tracing.specs.Answers.{sheetAnswer, writeAnswer, openAnswer, builtAnswer, appendAnswer, appendManyAnswer, reportAnswer};
+ghost use Rattle.ray_tracing.specs.Answers.{sheetAnswer, writeAnswer, openAnswer, builtAnswer, appendAnswer, appendManyAnswer};
+ghost use Rattle.ray_tracing.specs.Answers.{instancesAnswer, reportAnswer};
 
 #[no_mangle]
 pub extern "C" fn zakvind_read_sheet(sheet: &[u8]) -> SheetAnswer
@@ -252,6 +257,19 @@ pub extern "C" fn zakvind_append_instances(
     )
 }
 
+// `records` are 64 bytes each, as appending writes them; `items` are written 55 bytes each, as appending takes them.
+#[no_mangle]
+pub extern "C" fn zakvind_read_instances(
+    records: &[u8],
+    blases: &[u8],
+    items: &mut [u8],
+) -> InstancesAnswer
+    ensures { λ r. ⌜ ReadsInstancesAs instancesAnswer
+        (now (records .entry)) (now (blases .entry)) (now (items .entry)) r (now (items .exit)) ⌝ }
+{
+    instances_answer(read_instances(records, blases, items))
+}
+
 #[no_mangle]
 pub extern "C" fn zakvind_report(sheet: &[u8], out: &mut [u8]) -> ReportAnswer
     ensures { λ r. ⌜ PutsAs reportAnswer (Report.report (now (sheet .entry))) (now (out .entry)) r (now (out .exit)) ⌝ }
@@ -269,7 +287,7 @@ pub extern "C" fn zakvind_explain(sheet: &[u8], out: &mut [u8]) -> ReportAnswer
 // The words of a call's refusal: the call is 1 of zakvind_read_sheet (e0 its place), 2 of zakvind_build, 3 of zakvind_submit (e0 its
 // action, e1 the action's kind, 0 where it is not known), 4 of zakvind_append_instance, 5 of zakvind_write_sheet (e0 its place), 6 of
 // zakvind_open_groups (e0 its place, of 45 and 46 e0 its group and e1 its item), 7 of zakvind_append_instances (e1 its position), 8
-// of zakvind_to_version_2 or 9 of zakvind_to_version_1 (e0 its place).
+// of zakvind_to_version_2 or 9 of zakvind_to_version_1 (e0 its place), 10 of zakvind_read_instances (e0 its record).
 #[no_mangle]
 pub extern "C" fn zakvind_words(
     call: u64,

@@ -1,6 +1,7 @@
 // The entry points' answers as the numbers of C structs, unused ones 0.
 use causes::Figures;
 use causes::build_figures;
+use causes::instances_number;
 use causes::sheet_number;
 use ray_tracing::AppendAnswer;
 use ray_tracing::Appended;
@@ -8,6 +9,8 @@ use ray_tracing::AppendedMany;
 use ray_tracing::BuildAnswer;
 use ray_tracing::Built;
 use ray_tracing::GroupsOpened;
+use ray_tracing::InstancesAnswer;
+use ray_tracing::InstancesRead;
 use ray_tracing::OpenAnswer;
 use ray_tracing::ReportAnswer;
 use ray_tracing::Reported;
@@ -28,9 +31,11 @@ ghost use Rattle.ray_tracing.specs.Groups.{unopened, openingOf};
 ghost use Rattle.ray_tracing.specs.Plan.{recorded, nothing-recorded, not-built, buildingOf};
 ghost use Rattle.ray_tracing.specs.Instances.{appendedOf};
 ghost use Rattle.ray_tracing.specs.AppendMany.{allInUse, noneAppended, appendedManyOf};
+ghost use Rattle.ray_tracing.specs.ReadInstances.{instancesReadOf};
 ghost use Rattle.ray_tracing.specs.Report.{reportedOf};
 ghost use Rattle.causes.specs.Figures.{causeOf};
-ghost use Rattle.ray_tracing.specs.Answers.{sheetAnswer, writeAnswer, openAnswer, builtAnswer, appendAnswer, appendManyAnswer, reportAnswer};
+ghost use Rattle.ray_tracing.specs.Answers.{sheetAnswer, writeAnswer, openAnswer, builtAnswer, appendAnswer, appendManyAnswer};
+ghost use Rattle.ray_tracing.specs.Answers.{instancesAnswer, reportAnswer};
 
 fn sheet_accepted(x: Sheet) -> SheetAnswer
     ensures { λ r. ⌜ r ≡ sheetAnswer (accepted x) ⌝ }
@@ -293,6 +298,25 @@ pub fn append_many_answer(used: usize, appended: AppendedMany) -> AppendAnswer
     match appended {
         AppendedMany::InUse(n) => append_done(n),
         AppendedMany::Refused(cause, e, f) => append_refused(build_figures(cause), e, f, used),
+    }
+}
+
+pub fn instances_answer(read: InstancesRead) -> InstancesAnswer
+    ensures { λ r. ⌜ r ≡ instancesAnswer (instancesReadOf read) ⌝ }
+{
+    match read {
+        InstancesRead::Written(n) => InstancesAnswer {
+            number: 0,
+            e0: 0,
+            e1: 0,
+            written: n as u64,
+        },
+        InstancesRead::Refused(e, k) => InstancesAnswer {
+            number: instances_number(e),
+            e0: k as u64,
+            e1: 0,
+            written: 0,
+        },
     }
 }
 

@@ -1,11 +1,12 @@
 // The paper's number of each cause, with its figures: what the definitions in ray_tracing/specs/Causes.antt say, as code.
 use ray_tracing::BuildAccelerationStructureError as Error;
+use ray_tracing::ReadInstancesError;
 use ray_tracing::Resource;
 use ray_tracing::RunningTotal;
 use ray_tracing::SheetError;
 use ray_tracing::ValidateAsActionsError;
 ghost use mathlib.Core.Path.{_≡_};
-ghost use Rattle.ray_tracing.specs.Causes.{sheetNumber, sorted, cause, runningTotal, buildCause, submissionCause};
+ghost use Rattle.ray_tracing.specs.Causes.{sheetNumber, instancesNumber, sorted, cause, runningTotal, buildCause, submissionCause};
 ghost use Rattle.causes.specs.Figures.{causeOf, plainly};
 
 // A cause's number and its figures; those that a refusal lacks are 0.
@@ -25,6 +26,17 @@ pub fn sheet_number(e: SheetError) -> u64
         SheetError::TrailingBytes => 3,
         SheetError::TooMany => 4,
         SheetError::InvalidValue => 5,
+    }
+}
+
+pub fn instances_number(e: ReadInstancesError) -> u64
+    ensures { λ r. ⌜ r ≡ instancesNumber e ⌝ }
+{
+    match e {
+        ReadInstancesError::UnevenLength => 48,
+        ReadInstancesError::WordNotZero => 49,
+        ReadInstancesError::NotOneBlas => 50,
+        ReadInstancesError::OutputTooShort => 39,
     }
 }
 

@@ -17,12 +17,12 @@ use ray_tracing::TlasInstance;
 use ray_tracing::Verdict;
 use records::blas_at;
 use records::blas_mention;
+use records::handle_of;
 use records::tlas_at;
 use records::tlas_mention;
 use wire::u8_at;
 use wire::u16_at;
 use wire::u32_at;
-use wire::u64_at;
 ghost use mathlib.Core.Path.{_≡_};
 ghost use mathlib.Core.Bool.{cond};
 ghost use Prim.Native.Nat.{ℕ, _+_, _*_, _/_, _≤_, _<_};
@@ -39,9 +39,6 @@ ghost use Rattle.instance.specs.Writable.{Writable};
 
 // Custom data from here on is 34.
 const CUSTOM_LIMIT: u32 = 16777216;
-
-// Where a Blas's handle stands.
-const HANDLE: usize = 12;
 
 // Where a slot's Blas and custom data stand.
 const SLOT_BLAS: usize = 1;
@@ -112,7 +109,7 @@ pub fn address_of(blases: &[u8], blas: BlasId) -> u64
     requires { ⌜ blas .0 < length (now blases) / size 2 ⌝ }
     ensures { λ r. ⌜ r ≡ blasOf (now (blases .entry)) (blas .0) .handle ⌝ }
 {
-    u64_at(blases, blas.0 as usize * BLAS_SIZE + HANDLE)
+    handle_of(blases, blas.0 as usize)
 }
 
 // Appends one instance of a Tlas to the instances in use, or refuses and writes nothing.

@@ -45,3 +45,10 @@ pub sets-three : (l : List ℕ) {l₁ l₂ l₃ : List ℕ} (at m n : ℕ) (A B 
 sets-three l at m n A B C e₁ e₂ e₃ a b =
     let s₂ = sets-then l at (at + m) A B e₁ e₂ (omega arith) in
     sets-then l at (at + n) (A ++ B) C s₂ e₃ (omega (arith, length-append A B)) ∙ ap (sets l at) (append-assoc A B C)
+
+-- four
+pub sets-four : (l : List ℕ) {l₁ l₂ l₃ l₄ : List ℕ} (at m n o : ℕ) (A B C D : List ℕ) → l₁ ≡ sets l at A → l₂ ≡ sets l₁ (at + m) B → l₃ ≡ sets l₂ (at + n) C
+    → l₄ ≡ sets l₃ (at + o) D → length A ≡ m → m + length B ≡ n → n + length C ≡ o → l₄ ≡ sets l at (A ++ (B ++ (C ++ D)))
+sets-four l at m n o A B C D e₁ e₂ e₃ e₄ a b c =
+    let s₂ = sets-then l at (at + m) A B e₁ e₂ (omega arith) in
+    sets-three l at n o (A ++ B) C D s₂ e₃ e₄ (omega (arith, length-append A B)) c ∙ ap (sets l at) (append-assoc A B (C ++ D))

@@ -1,23 +1,23 @@
 -- Laws of appending. A call for one is accepted where it is judged fine and there is room. A call for many is one call after another; else
 -- the first bad one decides, and nothing is written.
-use Prim.Native.Nat.{ℕ, zero, suc, _+_, _*_, _/_, _%_, _≤_, _<_}
-use native.Mathlib.Nat.{zero-add, not-suc-le-zero}
+use Prim.Native.Nat.{ℕ, zero, suc, _+_, _*_, _/_, _%_, _^_, _≤_, _<_}
+use native.Mathlib.Nat.{zero-add}
 use native.Mathlib.Omega.{arith}
 use mathlib.Core.Path.{_≡_, refl, sym, ap, _∙_}
 use mathlib.Core.Bool.{Bool, true, false}
 use mathlib.Core.List.{List, [], _++_}
 use lib.Dec.{ltb}
-use lib.ListN.{length, take, drop, length-append, length-drop}
-use lib.Seq.{sets, length-sets, take-all, take-append-le, drop-at, drop-append-le}
-use borrow.Author.Tests.{le-ltb, ltb-true, ltb-false, eq-eqb}
+use lib.ListN.{length, take, drop}
+use lib.Seq.{sets, length-sets}
+use borrow.Author.Tests.{le-ltb, ltb-false, eq-eqb}
 use Rattle.wire.proofs.Laws.{sets-append}
 use Rattle.ray_tracing.specs.declared.TlasId.{TlasId}
 use Rattle.ray_tracing.specs.declared.TlasInstance.{TlasInstance}
 use Rattle.ray_tracing.specs.Guard.{refuse, neb}
+use Rattle.ray_tracing.specs.Layout.{size}
 use Rattle.ray_tracing.specs.Causes.{Cause, bare}
 use Rattle.ray_tracing.specs.Mentions.{_else_, tlasMention, tlasOf}
 use Rattle.ray_tracing.specs.Instances.{
-  instanceFrom,
   instanceBytes,
   addressFor,
   namedInstanceRule,
@@ -30,6 +30,7 @@ use Rattle.ray_tracing.specs.Instances.{
   appendRule,
   bytesAfter,
   appendBytes,
+  Appends,
 }
 use Rattle.ray_tracing.specs.Plan as plan
 use Rattle.ray_tracing.specs.Plan.{Verdict, passed, on, _or_, atE, firstOf}
@@ -54,7 +55,8 @@ use Rattle.ray_tracing.specs.AppendMany.{
 }
 use Rattle.ray_tracing.proofs.Mentions.{else-rest, else-zero}
 use Rattle.ray_tracing.proofs.Verdicts.{or-passed, on-passed, none-atE, each-passed, all-passed, first-refused}
-use Rattle.ray_tracing.proofs.Instances.{from-length}
+use Rattle.ray_tracing.proofs.Instances.{from-length, inside-narrow}
+use Rattle.ray_tracing.proofs.EndToEnd.{joined-length, joined-at, joined-are}
 
 -- ---- a call for one
 
@@ -104,6 +106,18 @@ module _ (tlases blases : List ℕ) (tlas : TlasId) (i : TlasInstance) where
   when-done b used fine h =
       let t = le-ltb (length b) (used + 64) h in
       (rw (fine, t), rw (fine, t))
+
+-- what it was judged for, and what it wrote
+module _ (tlases blases : List ℕ) (tlas : TlasId) (i : TlasInstance) (b : List ℕ) (used : ℕ) {m : ℕ} {p : List ℕ} (call : Appends tlases blases tlas i b used (inUse m) p) where
+  pub alone-inside : (i .blas .0 < length blases / size 2) × (i .«custom_data» < 2 ^ 24)
+  unfolding namedTlasRule
+  alone-inside =
+      inside-narrow (tlasOf tlases (tlas .0)) blases i
+      (else-zero (tlasMention tlases (tlas .0)) _ (accepted-alone tlases blases tlas i (length b) used (call .answer) .0) .1)
+
+  pub alone-wrote : p ≡ sets b used (instanceBytes i (addressFor blases i))
+  unfolding appendBytes
+  alone-wrote = call .left ∙ ap (λ (a : Appending). bytesAfter a (sets b used (instanceBytes i (addressFor blases i))) b) (sym (call .answer))
 
 -- ---- what is judged of many
 
@@ -190,50 +204,31 @@ module _ (tlases blases : List ℕ) (tlas : TlasId) (items : List ℕ) where
 -- ---- one call after another
 
 module _ (blases items : List ℕ) where
-  pub many-length : (n : ℕ) → length (manyBytes blases items n) ≡ 64 * n
+  -- the k-th's
+  abbrev one-bytes : ℕ → List ℕ
+  one-bytes k = instanceBytes (lentInstance items k) (addressFor blases (lentInstance items k))
+
+  many-none : manyBytes blases items 0 ≡ []
   unfolding manyBytes
-  many-length zero = refl
-  many-length (suc n) =
-      let i = lentInstance items n in
-      length-append (manyBytes blases items n) (instanceBytes i (addressFor blases i))
-      ∙ omega (arith, many-length n, from-length items (n * lentSize) (addressFor blases i))
+  many-none = refl
+
+  many-more : (n : ℕ) → manyBytes blases items (suc n) ≡ manyBytes blases items n ++ one-bytes n
+  unfolding manyBytes
+  many-more n = refl
+
+  one-length : (k : ℕ) → length (one-bytes k) ≡ 64
+  one-length k = from-length items (k * lentSize) (addressFor blases (lentInstance items k))
+
+  pub many-length : (n : ℕ) → length (manyBytes blases items n) ≡ 64 * n
+  many-length = joined-length 64 one-bytes (manyBytes blases items) many-none many-more one-length
 
   -- where each stands
-  pub many-at :
-      (n k : ℕ)
-      → k < n
-      → take 64 (drop (64 * k) (manyBytes blases items n))
-      ≡ instanceBytes (lentInstance items k) (addressFor blases (lentInstance items k))
-  unfolding manyBytes
-  many-at zero k h = absurd (not-suc-le-zero h)
-  many-at (suc n) k h = go (ltb k n) refl (many-at n k)
-    where
-      old : List ℕ
-      old = manyBytes blases items n
+  pub many-at : (n k : ℕ) → k < n → take 64 (drop (64 * k) (manyBytes blases items n)) ≡ one-bytes k
+  many-at = joined-at 64 one-bytes (manyBytes blases items) many-none many-more one-length
 
-      bytes : ℕ → List ℕ
-      bytes k = instanceBytes (lentInstance items k) (addressFor blases (lentInstance items k))
-
-      long : length old ≡ 64 * n
-      long = many-length n
-
-      go :
-          (t : Bool)
-          → ltb k n ≡ t
-          → (k < n → take 64 (drop (64 * k) old) ≡ bytes k)
-          → take 64 (drop (64 * k) (old ++ bytes n)) ≡ bytes k
-      go true e before =
-          let l = ltb-true k n e in
-          ap (take 64) (drop-append-le (64 * k) old (bytes n) (omega (arith, long)))
-          ∙ take-append-le 64 (drop (64 * k) old) (bytes n) (omega (arith, long, length-drop (64 * k) old))
-          ∙ before l
-      go false e before =
-          let same : n ≡ k = omega (arith, ltb-false k n e) in
-          let one = from-length items (n * lentSize) (addressFor blases (lentInstance items n)) in
-          ap (λ (m : ℕ). take 64 (drop (64 * m) (old ++ bytes n))) (sym same)
-          ∙ ap (take 64) (drop-at old (bytes n) (64 * n) long)
-          ∙ take-all 64 (bytes n) (omega arith)
-          ∙ ap bytes same
+  -- if each is a record of a list
+  pub many-are : (s : List ℕ) (n : ℕ) → ((k : ℕ) → k < n → one-bytes k ≡ take 64 (drop (64 * k) s)) → manyBytes blases items n ≡ take (64 * n) s
+  many-are = joined-are 64 one-bytes (manyBytes blases items) many-none many-more one-length
 
 module _ (tlases blases : List ℕ) (tlas : TlasId) (items b : List ℕ) (used : ℕ) where
   one-by-one :

@@ -168,23 +168,23 @@ module _ (i : TlasInstance) (address : ℕ) (h : length (i .transform) ≡ 12) (
 -- ---- a transform that was read
 
 -- each number is below 2 ^ 32
-abbrev Small : List ℕ → Type 0
+abbrev pub Small : List ℕ → Type 0
 Small [] = Unit
 Small (w ∷ ws) = (w < 2 ^ 32) × Small ws
 
-small-words : (n : ℕ) (s : List ℕ) (at : ℕ) → Below s → Small (wordsAt n s at)
+pub small-words : (n : ℕ) (s : List ℕ) (at : ℕ) → Below s → Small (wordsAt n s at)
 unfolding wordsAt
 small-words zero s at b = tt
 small-words (suc n) s at b = (le-below 4 s at b, small-words n s (at + 4) b)
 
 -- every pattern, read and written, is itself
-patterns-back : (ws : List ℕ) → Small ws → patterns (map (ofBits binary32) ws) (map nanOf ws) ≡ ws
+pub patterns-back : (ws : List ℕ) → Small ws → patterns (map (ofBits binary32) ws) (map nanOf ws) ≡ ws
 unfolding patterns
 patterns-back [] h = refl
 patterns-back (w ∷ ws) h =
     ap (λ (x : ℕ). x ∷ patterns (map (ofBits binary32) ws) (map nanOf ws)) (bits-back w (h .0)) ∙ ap (λ (r : List ℕ). w ∷ r) (patterns-back ws (h .1))
 
-words-back : (n : ℕ) (s : List ℕ) (at : ℕ) → Below s → at + 4 * n ≤ length s → words (wordsAt n s at) ≡ take (4 * n) (drop at s)
+pub words-back : (n : ℕ) (s : List ℕ) (at : ℕ) → Below s → at + 4 * n ≤ length s → words (wordsAt n s at) ≡ take (4 * n) (drop at s)
 unfolding words wordsAt
 words-back zero s at b h = refl
 words-back (suc n) s at b h =

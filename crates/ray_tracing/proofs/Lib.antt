@@ -5,6 +5,8 @@ pub mod Reading
 pub mod Windows
 pub mod Numbers
 pub mod Instances
+pub mod EndToEnd
+pub mod InstanceRecords
 pub mod Mentions
 pub mod Causes
 pub mod Sheets
@@ -27,6 +29,8 @@ pub mod Sound
 pub mod Cuts
 pub mod Verdicts
 pub mod AppendMany
+pub mod ReadInstances
+pub mod ReadBack
 pub mod Inside
 pub mod Accepted
 pub mod Builds

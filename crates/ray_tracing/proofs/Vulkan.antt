@@ -1,27 +1,27 @@
 -- Vulkan's bytes of what callers find: in the output that a recorded build leaves, each present slot's 64 bytes are those of the
 -- VkAccelerationStructureInstanceKHR that the slot says; and so are an appended instance's, and those of each of many.
-use Prim.Native.Nat.{ℕ, zero, suc, _+_, _-_, _*_, _^_, _<_, _≤_}
+use Prim.Native.Nat.{ℕ, _+_, _-_, _*_, _^_, _<_, _≤_}
 use native.Mathlib.Nat.{zero-add}
 use native.Mathlib.Omega.{arith}
 use mathlib.Core.Path.{_≡_, refl, sym, ap, _∙_}
-use mathlib.Core.Bool.{Bool, true, false, not, _||_, _&&_, cond}
-use mathlib.Core.List.{List, [], _∷_, _++_, append-assoc}
-use lib.ListN.{length, take, drop, getD, length-append, length-take, length-drop, List·getD-append}
-use lib.Seq.{sets, sets-eq, take-append-le, drop-append-le, drop-drop, take-at, drop-at, length-take-le}
+use mathlib.Core.Bool.{true}
+use mathlib.Core.List.{List, _++_, append-assoc}
+use lib.ListN.{length, take, drop, getD, length-take, length-drop, List·getD-append}
+use lib.Seq.{sets, sets-eq, take-append-le, drop-append-le, drop-drop, drop-at, length-take-le}
 use Rattle.wire.specs.Wire.{leAt, leBytes}
 use Rattle.ray_tracing.specs.declared.Written.{Written}
 use Rattle.ray_tracing.specs.declared.TlasId.{TlasId}
 use Rattle.ray_tracing.specs.declared.TlasInstance.{TlasInstance}
 use Rattle.ray_tracing.specs.Layout.{size}
 use Rattle.ray_tracing.specs.Records.{fieldAt}
-use Rattle.ray_tracing.specs.Mentions.{tlasMention, blasOf, tlasOf}
-use Rattle.ray_tracing.specs.Instances.{VkAccelerationStructureInstanceKHR, field, columns, vkBytes, vkInstance, vkSlot, patterns, wordsAt, instanceFrom, instanceAt, addressFor, instanceBytes, presentOf, Appending, inUse, namedTlasRule, bytesAfter, appendBytes, Appends}
-use Rattle.ray_tracing.specs.Plan.{Tables, passed, recordsIn, slotCount, slotPresent, slotBlas, tlasOfPackage, judgeSlot, judgePackage, judgePackages, Outputs, planOf, short, Building, recorded, build, written, leaves, Builds}
+use Rattle.ray_tracing.specs.Mentions.{blasOf, tlasOf}
+use Rattle.ray_tracing.specs.Instances.{VkAccelerationStructureInstanceKHR, field, columns, vkBytes, vkInstance, vkSlot, instanceFrom, instanceAt, addressFor, instanceBytes, presentOf, inUse, Appends}
+use Rattle.ray_tracing.specs.Plan.{Tables, passed, recordsIn, slotCount, slotPresent, slotBlas, tlasOfPackage, judgeSlot, judgePackage, judgePackages, Outputs, planOf, Building, recorded, build, written, leaves, Builds}
 use Rattle.ray_tracing.specs.AppendMany.{lentSize, lentCount, lentInstance, manyBytes, allInUse, AppendsMany}
-use Rattle.ray_tracing.proofs.Mentions.{else-zero}
-use Rattle.ray_tracing.proofs.AppendMany.{accepted-alone, accepted-wrote, many-length, many-at}
+use Rattle.ray_tracing.proofs.EndToEnd.{set-part}
+use Rattle.ray_tracing.proofs.AppendMany.{accepted-alone, alone-inside, alone-wrote, accepted-wrote, many-length, many-at}
 use Rattle.ray_tracing.proofs.Verdicts.{or-passed, none-atE, none-cond, each-passed, each-drawing}
-use Rattle.ray_tracing.proofs.Inside.{Inside, slotsBefore, slots-none, slots-more}
+use Rattle.ray_tracing.proofs.Inside.{slotsBefore, slots-none, slots-more}
 use Rattle.ray_tracing.proofs.Instances.{Below, vk-bytes, bytes-length, from-lengths, from-length, patterns-read, getD-wordsAt, slot-custom, rule-narrow, inside-narrow}
 use Rattle.ray_tracing.proofs.Staged.{slot-placed, staging-length}
 use Rattle.ray_tracing.proofs.PlanLaws.{judged, facts, room}
@@ -137,28 +137,16 @@ module _ (x : Tables) (o : Outputs) (n : ℕ) (w : Written) (left : Outputs) (bu
 
 module _ (tlases blases : List ℕ) (tlas : TlasId) (i : TlasInstance) (b : List ℕ) (used m : ℕ) (left : List ℕ)
     (appends : Appends tlases blases tlas i b used (inUse m) left) (h : length (i .transform) ≡ 12) (g : length (i .«nan_bits») ≡ 12) where
-  not-refused : (namedTlasRule tlases blases tlas i ≡ 0) × (used + 64 ≤ length b)
-  not-refused = accepted-alone tlases blases tlas i (length b) used (appends .answer)
-
-  narrow : i .«custom_data» < 2 ^ 24
-  unfolding namedTlasRule
-  narrow = inside-narrow (tlasOf tlases (tlas .0)) blases i (else-zero (tlasMention tlases (tlas .0)) _ (not-refused .0) .1) .1
-
-  left-as : left ≡ sets b used (instanceBytes i (addressFor blases i))
-  unfolding appendBytes
-  left-as = appends .left ∙ ap (λ (a : Appending). bytesAfter a (sets b used (instanceBytes i (addressFor blases i))) b) (sym (appends .answer))
-
   -- the 64 bytes that were in nobody's use
   pub append-vk : take 64 (drop used left) ≡ vkBytes (vkInstance i (addressFor blases i))
   append-vk =
       let bytes = instanceBytes i (addressFor blases i) in
       let long : length bytes ≡ 64 = bytes-length i (addressFor blases i) h g in
-      let fits = not-refused .1 in
-      let rest = drop (used + length bytes) b in
-      ap (λ (l : List ℕ). take 64 (drop used l)) (left-as ∙ sets-eq bytes b used (omega arith) ∙ append-assoc (take used b) bytes rest)
-      ∙ ap (take 64) (drop-at (take used b) (bytes ++ rest) used (length-take-le used b (omega arith)))
-      ∙ take-at bytes rest 64 long
-      ∙ vk-bytes i (addressFor blases i) h g narrow
+      let fits = accepted-alone tlases blases tlas i (length b) used (appends .answer) .1 in
+      ap (λ (l : List ℕ). take 64 (drop used l)) (alone-wrote tlases blases tlas i b used appends)
+      ∙ ap (λ (n : ℕ). take n (drop used (sets b used bytes))) (sym long)
+      ∙ set-part bytes b used (omega arith)
+      ∙ vk-bytes i (addressFor blases i) h g (alone-inside tlases blases tlas i b used appends .1)
 
 -- ---- many in one call
 

@@ -5,6 +5,7 @@ use Rattle.ray_tracing.specs.Reading.{Reading, accepted, rejected}
 use Rattle.ray_tracing.specs.Plan.{Building, recorded, nothing-recorded, not-built}
 use Rattle.ray_tracing.specs.Instances.{Appending, inUse, refused}
 use Rattle.ray_tracing.specs.AppendMany.{AppendingMany, allInUse, noneAppended}
+use Rattle.ray_tracing.specs.ReadInstances.{ReadingInstances, allRead, noneRead}
 use Rattle.ray_tracing.specs.Report.{Reporting}
 use Rattle.ray_tracing.specs.Canonical.{Writing, wrote, unwritten}
 use Rattle.ray_tracing.specs.Groups.{Opening, opened, unopened}
@@ -13,6 +14,7 @@ use Rattle.ray_tracing.specs.declared.WriteAnswer.{WriteAnswer}
 use Rattle.ray_tracing.specs.declared.OpenAnswer.{OpenAnswer}
 use Rattle.ray_tracing.specs.declared.BuildAnswer.{BuildAnswer}
 use Rattle.ray_tracing.specs.declared.AppendAnswer.{AppendAnswer}
+use Rattle.ray_tracing.specs.declared.InstancesAnswer.{InstancesAnswer}
 use Rattle.ray_tracing.specs.declared.ReportAnswer.{ReportAnswer}
 
 -- "number, place", or where each section starts and how many records it has
@@ -148,6 +150,11 @@ abbrev pub appendManyAnswer : ℕ → AppendingMany → AppendAnswer
 appendManyAnswer used (allInUse n) = record { number = 0; e0 = 0; e1 = 0; f0 = 0; f1 = 0; f2 = 0; used = n }
 appendManyAnswer used (noneAppended e f c) =
     record { number = c .number; e0 = e; e1 = f; f0 = c .first; f1 = c .second; f2 = c .third; used = used }
+
+-- how many bytes of instances were written, or why none and the record
+abbrev pub instancesAnswer : ReadingInstances → InstancesAnswer
+instancesAnswer (allRead n) = record { number = 0; e0 = 0; e1 = 0; written = n }
+instancesAnswer (noneRead n e f) = record { number = n; e0 = e; e1 = f; written = 0 }
 
 -- "lent output too short | 39", or how many bytes were written
 abbrev pub reportAnswer : Reporting → ReportAnswer

@@ -18,6 +18,8 @@ use Rattle.ray_tracing.specs.declared.BuildAccelerationStructureError.{B
 use Rattle.ray_tracing.specs.declared.BuildAccelerationStructureError.the-variants as build
 use Rattle.ray_tracing.specs.declared.ValidateAsActionsError.{ValidateAsActionsError}
 use Rattle.ray_tracing.specs.declared.ValidateAsActionsError.the-variants as submission
+use Rattle.ray_tracing.specs.declared.ReadInstancesError.{ReadInstancesError}
+use Rattle.ray_tracing.specs.declared.ReadInstancesError.the-variants as instances
 use Rattle.ray_tracing.specs.Reading as reading
 
 -- "version not 1" (neither 1 nor 2), "sheet ends early; bytes after it | 1; 2; 3", "count above its limit; value outside its field | 4; 5"
@@ -111,3 +113,11 @@ submissionCause (submission.UsedUnbuiltBlas b t) = cause 42 (b .0) (t .0) 0
 submissionCause (submission.UsedTlasOfUnbuiltBlas t b) = unbuiltInUse (t .0) (b .0)
 submissionCause (submission.UsedUnbuiltTlas t) = cause 43 (t .0) 0 0
 submissionCause (submission.BlasNewerThenTlas b t) = cause 44 (b .0) (t .0) 0
+
+-- "48 for a length not in 64s, before all; then per record 49 where the u32 that the writer leaves zero holds something else; 50 for an
+-- address of no Blas or of several; both with the record; 39 last"
+abbrev pub instancesNumber : ReadInstancesError → ℕ
+instancesNumber instances.UnevenLength = 48
+instancesNumber instances.WordNotZero = 49
+instancesNumber instances.NotOneBlas = 50
+instancesNumber instances.OutputTooShort = 39

@@ -109,6 +109,9 @@ causes =
     ∷ "count 0, or a group that is not an earlier one"
     ∷ "more than 512 slots"
     ∷ "first vertex or primitive offset above 2^32 - 1"
+    ∷ "length not in 64s"
+    ∷ "u32 at byte 52 not 0"
+    ∷ "address of no Blas or of several"
     ∷ []
 
 abbrev pub causeWords : ℕ → String
@@ -208,7 +211,7 @@ abbrev pub between : ℕ → ℕ → ℕ → Bool
 between a b n = leb a n && leb n b
 
 -- the numbers that a call can refuse with: 1 reads a sheet, 2 builds, 3 submits, 4 appends an instance, 5 writes a sheet,
--- 6 opens groups, 7 appends many instances, 8 converts a sheet to version 2, 9 to version 1
+-- 6 opens groups, 7 appends many instances, 8 converts a sheet to version 2, 9 to version 1, 10 reads instances back
 abbrev pub refusesWith : ℕ → ℕ → Bool
 refusesWith call n =
     cond (eqb call 1) (between 1 5 n)
@@ -219,7 +222,8 @@ refusesWith call n =
     (cond (eqb call 6) (between 2 5 n || (eqb n 39 || between 45 46 n))
     (cond (eqb call 7) (between 5 6 n || (between 34 35 n || eqb n 39))
     (cond (eqb call 8) (between 1 5 n || eqb n 39)
-    (cond (eqb call 9) (between 1 5 n || (eqb n 39 || eqb n 47)) false))))))))
+    (cond (eqb call 9) (between 1 5 n || (eqb n 39 || eqb n 47))
+    (cond (eqb call 10) (eqb n 39 || between 48 50 n) false)))))))))
 
 -- "Errors: the reader's first, then 39", which has no place
 abbrev pub writeLine : ℕ → ℕ → List ℕ
@@ -239,8 +243,12 @@ convertLine version e n =
     cond (eqb n 1) (lineWith n version ("byte" is e ∷ []))
     (cond (eqb n 47) (refusedLine n ("byte" is e ∷ [])) (writeLine e n))
 
+-- "both with the record", 49 and 50; 48 and 39 have none
+abbrev pub recordItems : ℕ → ℕ → List Item
+recordItems e n = cond (between 49 50 n) ("record" is e ∷ []) []
+
 -- the line, by what e and f are in that call: a place; E; the action and its kind, 0 where it is not known; nothing; a place; a place, or
--- a group and its item; 0 and a position; a place
+-- a group and its item; 0 and a position; a place; a record
 abbrev pub callLine : ℕ → ℕ → ℕ → Cause → List ℕ
 callLine call e f c =
     cond (eqb call 1) (explanation (of-sheet (c .number) e))
@@ -250,7 +258,8 @@ callLine call e f c =
     (cond (eqb call 5) (writeLine e (c .number))
     (cond (eqb call 6) (openLine e f (c .number))
     (cond (eqb call 7) (refusedLine (c .number) (manyItems f (c .number)))
-    (convertLine (cond (eqb call 8) "version not 1" "version not 2") e (c .number))))))))
+    (cond (eqb call 8) (convertLine "version not 1" e (c .number))
+    (cond (eqb call 9) (convertLine "version not 2" e (c .number)) (refusedLine (c .number) (recordItems e (c .number)))))))))))
 
 abbrev pub noSuchCause : ℕ → List ℕ
 noSuchCause n = ascii "refused " ++ (decimal n ++ ascii ": no such cause\n")

@@ -10,6 +10,7 @@ pub mod Mentions
 pub mod Instances
 pub mod Plan
 pub mod AppendMany
+pub mod ReadInstances
 pub mod Submission
 pub mod History
 pub mod Claim

@@ -315,6 +315,20 @@ pub enum AppendedMany {
     Refused(BuildAccelerationStructureError, usize, usize),
 }
 
+// Why instance records are not read back.
+pub enum ReadInstancesError {
+    UnevenLength,
+    WordNotZero,
+    NotOneBlas,
+    OutputTooShort,
+}
+
+// What reading instances back came to: how many bytes were written, or the refusal and its record.
+pub enum InstancesRead {
+    Written(usize),
+    Refused(ReadInstancesError, usize),
+}
+
 // What a Blas declares for a geometry, if it does.
 pub enum Declared {
     Missing,
@@ -472,6 +486,15 @@ pub struct AppendAnswer {
     pub f1: u64,
     pub f2: u64,
     pub used: u64,
+}
+
+// What reading instances back came to: number and E; and how many bytes were written.
+#[repr(C)]
+pub struct InstancesAnswer {
+    pub number: u64,
+    pub e0: u64,
+    pub e1: u64,
+    pub written: u64,
 }
 
 // What writing a text came to: 0 or 39, and how many bytes were written.

@@ -32,6 +32,9 @@ ghost use Rattle.ray_tracing.specs.Mentions.{bufferMention, blasMention, tlasMe
 ghost use Rattle.ray_tracing.specs.Triangles.{indexWidth};
 ghost use Rattle.ray_tracing.specs.Code.{mentionOf};
 
+// Where a Blas's handle stands.
+const HANDLE: usize = 12;
+
 // The bytes of a geometry's transform.
 pub const TRANSFORM_SIZE: u64 = 48;
 
@@ -90,6 +93,14 @@ pub fn blas_at(table: &[u8], at: usize) -> Blas
         handle: u64_at(table, at + 12),
         built_index: u64_at(table, at + 20),
     }
+}
+
+// The address of the Blas at an index.
+pub fn handle_of(table: &[u8], k: usize) -> u64
+    requires { ⌜ k < length (now table) / size 2 ⌝ }
+    ensures { λ r. ⌜ r ≡ blasOf (now (table .entry)) k .handle ⌝ }
+{
+    u64_at(table, k * BLAS_SIZE + HANDLE)
 }
 
 pub fn declared_at(table: &[u8], at: usize) -> BlasGeometrySizeDescriptor

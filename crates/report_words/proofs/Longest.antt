@@ -26,8 +26,9 @@ use Rattle.ray_tracing.specs.Explain.{
   figureItems,
   actionItems,
   manyItems,
+  recordItems,
   itemBytes,
-  lineWith,
+  convertLine,
   refusedLine,
   explanation,
   between,
@@ -110,6 +111,9 @@ action-most kind c = search (either, lit≤) depth 12
 many-most : (f n : ℕ) → widest (manyItems f n) ≤ 39
 many-most f n = search (either, lit≤) depth 9
 
+record-most : (e n : ℕ) → widest (recordItems e n) ≤ 39
+record-most e n = search (either, lit≤) depth 9
+
 -- ---- the whole
 
 pub explanation-most : (r : Refusal) → length (explanation r) ≤ longestExplanation
@@ -159,7 +163,8 @@ words-most call n e f x y z =
     (each-within (eqb call 5) _ _ sheet-most
     (each-within (eqb call 6) _ _ (each-within (between 45 46 n) _ _ group-most sheet-most)
     (each-within (eqb call 7) _ _ instance-most
-    (each-within (eqb n 1) _ _ version-most (each-within (eqb n 47) _ _ place-line-most sheet-most)))))))))
+    (each-within (eqb call 8) _ _ (converter-most "version not 1" (lit≤ tt))
+    (each-within (eqb call 9) _ _ (converter-most "version not 2" (lit≤ tt)) record-line-most)))))))))
     (simp length-append (omega (arith, digits-most 20 n))))
   where
     plain-most : length (refusedLine n []) ≤ longestExplanation
@@ -171,10 +176,14 @@ words-most call n e f x y z =
     place-line-most : length (refusedLine n ("byte" is e ∷ [])) ≤ longestExplanation
     place-line-most = simp length-append (omega (arith, digits-most 20 n, cause-most n, items-most ("byte" is e ∷ [])))
 
-    version-most : length (lineWith n (cond (eqb call 8) "version not 1" "version not 2") ("byte" is e ∷ [])) ≤ longestExplanation
-    version-most =
-        let h = word 13 (eqb call 8) "version not 1" "version not 2" (lit≤ tt) (lit≤ tt) in
-        simp length-append (omega (arith, digits-most 20 n, h, items-most ("byte" is e ∷ [])))
+    converter-most : (version : String) → length (ascii version) ≤ 13 → length (convertLine version e n) ≤ longestExplanation
+    converter-most version h =
+        each-within (eqb n 1) _ _ (simp length-append (omega (arith, digits-most 20 n, h, items-most ("byte" is e ∷ []))))
+        (each-within (eqb n 47) _ _ place-line-most sheet-most)
+
+    record-line-most : length (refusedLine n (recordItems e n)) ≤ longestExplanation
+    record-line-most =
+        simp length-append (omega (arith, digits-most 20 n, cause-most n, items-most (recordItems e n), record-most e n))
 
     group-most : length (refusedLine n ("group" is e ∷ "item" is f ∷ [])) ≤ longestExplanation
     group-most = simp length-append (omega (arith, digits-most 20 n, cause-most n, items-most ("group" is e ∷ "item" is f ∷ [])))

@@ -22,6 +22,7 @@ use Rattle.ray_tracing.specs.Explain.{
   figureItems,
   actionItems,
   manyItems,
+  recordItems,
   itemBytes,
   lineWith,
   refusedLine,
@@ -51,6 +52,7 @@ use Rattle.report_words.specs.Lines.{
   manyPlace,
   toTwoPlace,
   toOnePlace,
+  recordPlace,
   linePlace,
 }
 
@@ -444,21 +446,48 @@ module _ (call e f x y z : ℕ) where
       go false h true i = rw (eqb-true n 47 i) (far ∙ line-is 47 ("byte" is e ∷ []))
       go false h false i = rw (or-none (eqb n 39)) (write n)
 
+  -- records that are read back
+
+  abbrev Back : ℕ → Type 0
+  Back n = at n (recordPlace n) ≡ begun n (recordItems e n)
+
+  record-lines : AllFrom Back 48 3
+  unfolding letter filled pastLines lines digits numberFor
+  record-lines = refl and refl and refl and end
+
+  record-39 : Back 39
+  unfolding letter filled pastLines lines digits numberFor
+  record-39 = refl
+
+  records : (n : ℕ) → at n (recordPlace n) ≡ cond (eqb n 39 || between 48 50 n) (refusedLine n (recordItems e n)) (noSuchCause n)
+  records n = go (eqb n 39) refl (between 48 50 n) refl
+    where
+      go :
+          (a : Bool)
+          → eqb n 39 ≡ a
+          → (b : Bool)
+          → between 48 50 n ≡ b
+          → at n (recordPlace n) ≡ cond (a || b) (refusedLine n (recordItems e n)) (noSuchCause n)
+      go true h b i = rw (eqb-true n 39 h) (record-39 ∙ line-is 39 (recordItems e 39))
+      go false h true i = bounded Back 48 3 50 n refl record-lines i ∙ line-is n (recordItems e n)
+      go false h false i = rw (i, h) (unknown n)
+
   -- ---- the table by call
 
   pub words-are : (n : ℕ) → at n (linePlace call n f x) ≡ wordsOf call n e f x y z
   unfolding wordsOf
-  words-are n = some (eqb n 0) _ _ (each (eqb call 1) (eqb call 2) (eqb call 3) (eqb call 4) (eqb call 5) (eqb call 6) (eqb call 7) (eqb call 8) (eqb call 9))
+  words-are n = some (eqb n 0) _ _ (each (eqb call 1) (eqb call 2) (eqb call 3) (eqb call 4) (eqb call 5) (eqb call 6) (eqb call 7) (eqb call 8) (eqb call 9) (eqb call 10))
     where
       each :
-          (a b c d g h i j k : Bool)
+          (a b c d g h i j k l : Bool)
           → at n
           (cond a (cond (between 1 5 n) (n + 1) 1)
           (cond b (buildPlace n x)
           (cond c (actionPlace n f)
           (cond d (appendPlace n)
           (cond g (writePlace n)
-          (cond h (openPlace n) (cond i (manyPlace n f) (cond j (toTwoPlace n) (cond k (toOnePlace n) 1)))))))))
+          (cond h (openPlace n)
+          (cond i (manyPlace n f) (cond j (toTwoPlace n) (cond k (toOnePlace n) (cond l (recordPlace n) 1))))))))))
           ≡ cond
           (cond a (between 1 5 n)
           (cond b (between 4 6 n || between 10 39 n)
@@ -467,7 +496,8 @@ module _ (call e f x y z : ℕ) where
           (cond g (between 1 5 n || eqb n 39)
           (cond h (between 2 5 n || (eqb n 39 || between 45 46 n))
           (cond i (between 5 6 n || (between 34 35 n || eqb n 39))
-          (cond j (between 1 5 n || eqb n 39) (cond k (between 1 5 n || (eqb n 39 || eqb n 47)) false)))))))))
+          (cond j (between 1 5 n || eqb n 39)
+          (cond k (between 1 5 n || (eqb n 39 || eqb n 47)) (cond l (eqb n 39 || between 48 50 n) false))))))))))
           (cond a (explanation (of-sheet n e))
           (cond b (explanation (of-build e f (cause n x y z)))
           (cond c (explanation (of-action e f (cause n x y z)))
@@ -477,18 +507,20 @@ module _ (call e f x y z : ℕ) where
           (cond (between 45 46 n) (refusedLine n ("group" is e ∷ "item" is f ∷ []))
           (cond (between 1 5 n) (explanation (of-sheet n e)) (refusedLine n [])))
           (cond i (refusedLine n (manyItems f n))
-          (convertLine (cond j "version not 1" "version not 2") e n))))))))
+          (cond j (convertLine "version not 1" e n)
+          (cond k (convertLine "version not 2" e n) (refusedLine n (recordItems e n)))))))))))
           (noSuchCause n)
-      each true b c d g h i j k = sheet n
-      each false true c d g h i j k = build n
-      each false false true d g h i j k = submit n
-      each false false false true g h i j k = append n
-      each false false false false true h i j k = write n
-      each false false false false false true i j k = opening n
-      each false false false false false false true j k = many n
-      each false false false false false false false true k = to-two n
-      each false false false false false false false false true = to-one n
-      each false false false false false false false false false = unknown n
+      each true b c d g h i j k l = sheet n
+      each false true c d g h i j k l = build n
+      each false false true d g h i j k l = submit n
+      each false false false true g h i j k l = append n
+      each false false false false true h i j k l = write n
+      each false false false false false true i j k l = opening n
+      each false false false false false false true j k l = many n
+      each false false false false false false false true k l = to-two n
+      each false false false false false false false false true l = to-one n
+      each false false false false false false false false false true = records n
+      each false false false false false false false false false false = unknown n
 
       some : (b : Bool) (p : ℕ) (t : List ℕ) → at n p ≡ t → at n (cond b 0 p) ≡ cond b (explanation nothing) t
       some true p t h = none n

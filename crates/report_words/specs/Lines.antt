@@ -6,7 +6,7 @@ use mathlib.Core.List.{List, [], _∷_, _++_, map}
 use lib.Dec.{eqb}
 use Rattle.ray_tracing.specs.Causes.{cause}
 use Rattle.ray_tracing.specs.Report.{decimal, ascii}
-use Rattle.ray_tracing.specs.Explain.{Item, _is_, causeWords, kindWords, placeItems, figureItems, actionItems, manyItems, between}
+use Rattle.ray_tracing.specs.Explain.{Item, _is_, causeWords, kindWords, placeItems, figureItems, actionItems, manyItems, recordItems, between}
 use Rattle.report_words.specs.declared.Refusal.{Refusal}
 
 -- A line, filled
@@ -81,9 +81,13 @@ manyText f n = lineOf n (map (λ i. i .word is 70) (manyItems f n))
 abbrev pub versionText : String → List ℕ
 versionText words = lineIn 1 words ("byte" is 69 ∷ [])
 
+-- of records that are read back
+abbrev pub recordText : ℕ → List ℕ
+recordText n = lineOf n (recordItems 69 n)
+
 -- none and any number; a sheet's; a build's, and 21 of a Blas, of a Tlas, of no sort; a submission's, with 42 of a Build, and 42 of
 -- a use and of no kind; an append's; a group's; an append's of many, and 6 at position 0; 37 of an entry and of a package;
--- and a converter's
+-- a converter's; and those of records that are read back
 unfoldable pub lines : List ℕ
 lines =
     ascii "nothing is refused\nrefused #: no such cause\n"
@@ -109,7 +113,8 @@ lines =
     ++ (manyText 0 6
     ++ (buildText 1 37
     ++ (buildText 2 37
-    ++ (versionText "version not 1" ++ (versionText "version not 2" ++ sheetLine 47))))))))))))))))))))))))
+    ++ (versionText "version not 1"
+    ++ (versionText "version not 2" ++ (sheetLine 47 ++ linesFrom recordText 48 3)))))))))))))))))))))))))
 
 -- Which line
 
@@ -159,6 +164,10 @@ toTwoPlace n = cond (eqb n 1) 68 (writePlace n)
 abbrev pub toOnePlace : ℕ → ℕ
 toOnePlace n = cond (eqb n 1) 69 (cond (eqb n 47) 70 (writePlace n))
 
+-- lines of their own, and the append's of 39
+abbrev pub recordPlace : ℕ → ℕ
+recordPlace n = cond (between 48 50 n) (n + 23) (cond (eqb n 39) 58 1)
+
 -- of a call's number: by the kind or the position, which is its F, and the first figure, which is its X
 abbrev pub linePlace : ℕ → ℕ → ℕ → ℕ → ℕ
 linePlace call n kind first =
@@ -170,4 +179,5 @@ linePlace call n kind first =
     (cond (eqb call 5) (writePlace n)
     (cond (eqb call 6) (openPlace n)
     (cond (eqb call 7) (manyPlace n kind)
-    (cond (eqb call 8) (toTwoPlace n) (cond (eqb call 9) (toOnePlace n) 1)))))))))
+    (cond (eqb call 8) (toTwoPlace n)
+    (cond (eqb call 9) (toOnePlace n) (cond (eqb call 10) (recordPlace n) 1))))))))))

@@ -27,11 +27,11 @@ ghost use Rattle.report_words.specs.Refused.{refusedBy, wordsIn, Refuses
 ghost use Rattle.report_words.specs.Longest.{longestExplanation};
 ghost use Rattle.report_words.specs.Lines.{numberFor, isNumber, letter, filled, pastLines, lines};
 ghost use Rattle.report_words.specs.Lines.{destroyedPlace, reachedPlace, buildPlace, unbuiltPlace, actionPlace};
-ghost use Rattle.report_words.specs.Lines.{appendPlace, writePlace, openPlace, manyPlace, toTwoPlace, toOnePlace, linePlace};
+ghost use Rattle.report_words.specs.Lines.{appendPlace, writePlace, openPlace, manyPlace, toTwoPlace, toOnePlace, recordPlace, linePlace};
 
 // The call that refuses, by its number (1 reads a sheet, 2 builds, 3 submits, 4 appends an instance, 5 writes a sheet, 6 opens groups, 7 appends many
-// instances, 8 converts a sheet to version 2, 9 to version 1), the refusal's number, place and figures; an action is in E and its kind in F, a group in E and its item in F, an instance's
-// position in F. Number 0 refuses nothing.
+// instances, 8 converts a sheet to version 2, 9 to version 1, 10 reads instances back), the refusal's number, place and figures; an action is in E
+// and its kind in F, a group in E and its item in F, an instance's position in F, a record in E. Number 0 refuses nothing.
 pub struct Refusal {
     pub call: u64,
     pub number: u64,
@@ -265,6 +265,9 @@ refused 37: scratch 2^64 - 1, package E
 refused 1: version not 1, byte E
 refused 1: version not 2, byte E
 refused 47: first vertex or primitive offset above 2^32 - 1, byte E
+refused 48: length not in 64s
+refused 49: u32 at byte 52 not 0, record E
+refused 50: address of no Blas or of several, record E
 ";
     put_line_of(out, at, lines, n, v)
 }
@@ -363,10 +366,17 @@ fn to_one_place(n: u64) -> usize
     pick(n == 1, 69, pick(n == 47, 70, write_place(n)))
 }
 
+fn record_place(n: u64) -> usize
+    ensures { λ r. ⌜ r ≡ recordPlace n ⌝ }
+{
+    shifted(n, 48, 50, 23, pick(n == 39, 58, 1))
+}
+
 fn line_place(call: u64, n: u64, kind: u64, figure: u64) -> usize
     ensures { λ r. ⌜ r ≡ linePlace call n kind figure ⌝ }
 {
-    let ninth = pick(call == 9, to_one_place(n), 1);
+    let tenth = pick(call == 10, record_place(n), 1);
+    let ninth = pick(call == 9, to_one_place(n), tenth);
     let eighth = pick(call == 8, to_two_place(n), ninth);
     let seventh = pick(call == 7, many_place(n, kind), eighth);
     let sixth = pick(call == 6, open_place(n), seventh);
