@@ -721,6 +721,198 @@ fn many_row(n: usize) -> Many {
     Many { name: format!("many-{n}"), what: format!("one call for {n} instances"), bytes, ours, each, copy }
 }
 
+/// Nanoseconds of instances read back from their records; of the same in plain Rust, each Blas by a scan of the table, by a search
+/// of its addresses, sorted before, and by a map of them; and of a plain memory copy of the records.
+struct Back {
+    name: String,
+    what: String,
+    ours: f64,
+    scan: f64,
+    sorted: f64,
+    map: f64,
+    copy: f64,
+}
+
+/// The number and the record of a refusal.
+type NotRead = (u64, usize);
+
+/// What there is instead, given how a Blas is found: all records judged, with what was found kept, and then their items written.
+fn read_by(find: impl Fn(u64) -> Option<u16>, records: &[u8], items: &mut [u8]) -> Result<usize, NotRead> {
+    let (records, part) = records.as_chunks::<64>();
+    if !part.is_empty() {
+        return Err((48, 0));
+    }
+    let mut ids = Vec::with_capacity(records.len());
+    for (k, record) in records.iter().enumerate() {
+        if record[52..56] != [0; 4] {
+            return Err((49, k));
+        }
+        ids.push(find(u64_at(record, 56)).ok_or((50, k))?);
+    }
+    let out = items.get_mut(..55 * records.len()).ok_or((39, 0))?;
+    for ((record, id), item) in records.iter().zip(ids).zip(out.as_chunks_mut::<55>().0) {
+        item[..2].copy_from_slice(&id.to_le_bytes());
+        item[2..5].copy_from_slice(&record[48..51]);
+        (item[5], item[6]) = (0, record[51]);
+        item[7..].copy_from_slice(&record[..48]);
+    }
+    Ok(out.len())
+}
+
+fn u64_at(bytes: &[u8], at: usize) -> u64 {
+    u64::from_le_bytes(bytes[at..at + 8].try_into().expect("eight bytes"))
+}
+
+/// The address stands at byte 12 of a Blas.
+fn by_scan(records: &[u8], blases: &[u8], items: &mut [u8]) -> Result<usize, NotRead> {
+    let blases = blases.as_chunks::<28>().0;
+    let find = |address| {
+        let (mut times, mut found) = (0, 0);
+        for (k, blas) in blases.iter().enumerate() {
+            if u64_at(blas, 12) == address {
+                times += 1;
+                found = k;
+            }
+        }
+        match times {
+            1 => u16::try_from(found).ok(),
+            _ => None,
+        }
+    };
+    read_by(find, records, items)
+}
+
+fn by_sorted(records: &[u8], blases: &[u8], items: &mut [u8]) -> Result<usize, NotRead> {
+    let blases = blases.as_chunks::<28>().0.iter().enumerate();
+    let mut addresses: Vec<(u64, usize)> = blases.map(|(k, blas)| (u64_at(blas, 12), k)).collect();
+    addresses.sort_unstable();
+    let find = |address| {
+        let from = addresses.partition_point(|a| a.0 < address);
+        match addresses[from..] {
+            [a, b, ..] if a.0 == address && b.0 == address => None,
+            [a, ..] if a.0 == address => u16::try_from(a.1).ok(),
+            _ => None,
+        }
+    };
+    read_by(find, records, items)
+}
+
+/// With none for an address of several.
+fn by_map(records: &[u8], blases: &[u8], items: &mut [u8]) -> Result<usize, NotRead> {
+    let blases = blases.as_chunks::<28>().0;
+    let mut map = std::collections::HashMap::with_capacity(blases.len());
+    for (k, blas) in blases.iter().enumerate() {
+        map.entry(u64_at(blas, 12)).and_modify(|one| *one = None).or_insert(u16::try_from(k).ok());
+    }
+    read_by(|address| map.get(&address).copied().flatten(), records, items)
+}
+
+fn by_zakvind(records: &[u8], blases: &[u8], items: &mut [u8]) -> Result<usize, NotRead> {
+    let a = zakvind::raw::read_instances(records, blases, items);
+    match a.number {
+        0 => Ok(a.written as usize),
+        number => Err((number, a.e[0] as usize)),
+    }
+}
+
+type ReadBack = fn(&[u8], &[u8], &mut [u8]) -> Result<usize, NotRead>;
+const BACK: [ReadBack; 4] = [by_zakvind, by_scan, by_sorted, by_map];
+
+/// All four answer the same, and leave the same.
+fn alike(records: &[u8], blases: &[u8], room: usize, expected: Result<usize, NotRead>) {
+    let all = BACK.map(|read| {
+        let mut items = vec![7u8; room];
+        (read(records, blases, &mut items), items)
+    });
+    assert!(all.iter().all(|one| one.0 == expected && one.1 == all[0].1), "{expected:?}");
+}
+
+/// Blases as far apart as an allocator may put them: by multiples of 256, or all by one.
+fn blases_at(n: usize, step: Option<u64>) -> Vec<u8> {
+    let mut raw = tables(&Shape { blases: n, declared: 0, ..SMALL });
+    let (mut address, mut state) = (0x7f12_3400_0000, 1u64);
+    for i in 0..n {
+        raw.set(BLASES, i, blas::ADDRESS, address);
+        state = state.wrapping_mul(6_364_136_223_846_793_005).wrapping_add(1_442_695_040_888_963_407);
+        address += step.unwrap_or(256 * (16 + (state >> 33) % 4096));
+    }
+    raw.table(BLASES)
+}
+
+/// n records of instances whose Blases stand about the table in no order.
+fn records_of(n: usize, blases: &[u8]) -> (Vec<u8>, Vec<u8>) {
+    let mut t = tables(&only_slots(n));
+    let mut state = 2u64;
+    for i in 0..n {
+        state = state.wrapping_mul(6_364_136_223_846_793_005).wrapping_add(1_442_695_040_888_963_407);
+        t.set(SLOTS, i, slot::BLAS, (state >> 33) % (blases.len() / 28) as u64);
+    }
+    let (tlases, items) = (t.table(TLASES), lent_instances(&t.table(SLOTS)).concat());
+    let mut records = vec![0; 64 * n];
+    assert_eq!(zakvind::raw::append_instances(&tlases, blases, 0, &items, &mut records, 0).used as usize, records.len());
+    (records, items)
+}
+
+fn back_row(name: &str, what: &str, n: usize, blases: &[u8]) -> Back {
+    let (records, expected) = records_of(n, blases);
+    let room = expected.len();
+    // the same also where it is refused
+    alike(&records, blases, room, Ok(room));
+    alike(&records, blases, room - 1, Err((39, 0)));
+    alike(&records[..64 * n - 1], blases, room, Err((48, 0)));
+    for (at, byte, number) in [(52, 1, 49), (55, 128, 49), (63, 255, 50)] {
+        let mut other = records.clone();
+        other[64 * (n - 1) + at] = byte;
+        alike(&other, blases, room, Err((number, n - 1)));
+    }
+    let first = (0..n).find(|k| records[64 * k + 56..64 * k + 64] == blases[12..20]);
+    let twice = [blases, &blases[..28]].concat();
+    alike(&records, &twice, room, first.map_or(Ok(room), |k| Err((50, k))));
+    let mut out = BACK.map(|_| vec![1u8; room]);
+    let mut target = vec![1u8; records.len()];
+    let run = |k: usize, items: &mut [u8]| BACK[k](black_box(&records), black_box(blases), black_box(items));
+    let [o0, o1, o2, o3] = &mut out;
+    let [ours, scan, sorted, map, copy] = times(
+        [
+            &mut || {
+                let _ = black_box(run(0, o0));
+            },
+            &mut || {
+                let _ = black_box(run(1, o1));
+            },
+            &mut || {
+                let _ = black_box(run(2, o2));
+            },
+            &mut || {
+                let _ = black_box(run(3, o3));
+            },
+            &mut || black_box(&mut target).copy_from_slice(black_box(&records)),
+        ],
+        &mut || {},
+    );
+    assert!(out.iter().all(|items| *items == expected), "{name}");
+    Back { name: name.into(), what: what.into(), ours, scan, sorted, map, copy }
+}
+
+/// Instances read back; and the call with no records, which is the index alone.
+fn back_rows() -> (Vec<Back>, f64) {
+    let (few, most) = (blases_at(12, None), blases_at(128, None));
+    let rows = vec![
+        back_row("back-40", "40 records, 12 Blases", 40, &few),
+        back_row("back-512", "512 records, 128 Blases", 512, &most),
+        back_row("back-512-one", "the same, the addresses in steps of 257 times 256", 512, &blases_at(128, Some(256 * 257))),
+        back_row("back-512-256", "512 records, 256 Blases", 512, &blases_at(256, None)),
+    ];
+    assert_eq!(zakvind::raw::read_instances(&[], &most, &mut []).number, 0);
+    let [index] = times(
+        [&mut || {
+            black_box(zakvind::raw::read_instances(black_box(&[]), black_box(&most), black_box(&mut [])));
+        }],
+        &mut || {},
+    );
+    (rows, index)
+}
+
 fn submit_row(n: usize) -> Row {
     let acts: Vec<Act> = (0..n).map(ten).collect();
     let mut raw = Raw { alignment: 1, ..Raw::default() };
@@ -814,6 +1006,7 @@ fn main() {
     ];
     let (append, copy) = append_rows();
     let many = [40, 512].map(many_row);
+    let (backs, index) = back_rows();
     let anew = [
         written_anew("write-full", "a full sheet, nearly all of it used", &tables(&FULL)),
         written_anew("write-unused", "a full sheet of boxes and absent slots", &unused()),
@@ -845,6 +1038,12 @@ fn main() {
     for r in &many {
         let times = [r.ours, r.each, r.copy].map(micro).join(" | ");
         let _ = writeln!(at_once, "| {} | {} | {times} | {:.2} | {:.2} |", r.what, r.bytes, r.ours / r.copy, r.each / r.ours);
+    }
+    let mut reading_back = String::new();
+    for r in &backs {
+        let times = [r.ours, r.scan, r.sorted, r.map, r.copy].map(micro).join(" | ");
+        let ratios = [r.scan / r.ours, r.sorted / r.ours, r.map / r.ours, r.ours / r.copy].map(|x| format!("{x:.2}")).join(" | ");
+        let _ = writeln!(reading_back, "| {} | {times} | {ratios} |", r.what);
     }
     let mut writing = String::new();
     for r in &anew {
@@ -909,6 +1108,16 @@ fn main() {
          come to. The ratios are ours / copy and one call each / ours; all are judged, and then written in one pass, each one's twelve numbers \
          through `f32` as above, by what writes a build's instance bytes too.\n\n\
          | What | bytes | one call | one call each | copy | to a copy | each to one |\n|---|---|---|---|---|---|---|\n{at_once}\n\
+         Instances read back from their records, against the same in plain Rust, which judges all and then writes: each record's \
+         Blas by a scan of the table that counts those with its address, by a search of the addresses, sorted before, and by std's \
+         `HashMap` of them; and against a plain memory copy of the records. The ratios are the Rust's / ours and ours / copy. \
+         Up to 128 Blases are indexed, by what an address leaves when divided by 257; where all leave the same, and in a longer \
+         table, they are looked through one by one. The index of 128 Blases alone, by a call with no records, takes {index}.\n\n\
+         | What | ours | scan | sorted | map | copy | scan to ours | sorted to ours | map to ours | to a copy |\n\
+         |---|---|---|---|---|---|---|---|---|---|\n{reading_back}\n\
+         What keeps the last two rows slower than the scan: ours looks each record's Blas up twice, to judge all before anything \
+         is written, and to write; the Rust keeps what it found, in a vector of its own. And Blases of one remainder are a chain, \
+         in which each step waits for the one before.\n\n\
          A sheet written anew, against reading it alone and a plain memory copy of its 56,415 bytes, which is what a caller has who cannot \
          tell whether two sheets agree. The ratios are ours / reading and ours / copy; it judges the sheet as reading does, and then writes it \
          section by section.\n\n\
@@ -961,6 +1170,7 @@ fn main() {
         program = program(),
         most = 2 + 2 + 56 + 63 * 8,
         refused = micro(refused),
+        index = micro(index),
     );
     for r in rows.iter().chain(&growth) {
         println!(
@@ -1007,6 +1217,13 @@ fn main() {
         println!("copy {} {:.2}", r.name, r.ours / r.copy);
         println!("many {} {:.2}", r.name, r.each / r.ours);
     }
+    for r in &backs {
+        println!("scan {} {:.2}", r.name, r.scan / r.ours);
+        println!("sorted {} {:.2}", r.name, r.sorted / r.ours);
+        println!("map {} {:.2}", r.name, r.map / r.ours);
+        println!("copy {} {:.2}", r.name, r.ours / r.copy);
+    }
+    println!("index back-128 {}", micro(index));
     for r in &roundings {
         println!("round {} {:.2}", r.name, r.division / r.mask);
     }

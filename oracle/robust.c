@@ -10,7 +10,7 @@
 #include <string.h>
 #include <sys/mman.h>
 
-enum { AREAS = 18, AREA = 1 << 20, PAGE = 4096 };
+enum { AREAS = 18, AREA = 1 << 21, PAGE = 4096 };
 
 static void must(int holds, const char *what)
 {
@@ -126,7 +126,7 @@ static void given(unsigned call, const uint64_t *answer, size_t fields)
     }
     if (answer[0] < 64)
         numbers[answer[0]]++;
-    must(answer[0] <= 47, "a number of the table");
+    must(answer[0] <= 50, "a number of the table");
 }
 
 /* ---- the input */
@@ -379,6 +379,125 @@ static void call_append(input *in)
     must(!lents[3].before || memcmp(instances, lents[3].before, used) == 0, "what was in use is kept");
 }
 
+/* Lends the Blases of the input after `before` others, all of whose addresses are different. */
+static const uint8_t *take_blases(input *in, size_t before, size_t *bytes)
+{
+    const size_t there = *bytes < in->left ? *bytes : in->left;
+    *bytes = before * ZAKVIND_BLAS_BYTES + there;
+    uint8_t *all = calloc(*bytes + 1, 1);
+    must(all != NULL, "there is memory");
+    for (size_t i = 0; i < before; i++) {
+        const uint64_t address = (i + 1) * UINT64_C(0x9e3779b97f4a7c15);
+        for (int k = 0; k < 8; k++)
+            all[i * ZAKVIND_BLAS_BYTES + 12 + k] = (uint8_t)(address >> 8 * k);
+    }
+    memcpy(all + before * ZAKVIND_BLAS_BYTES, in->at, there);
+    in->at += there;
+    in->left -= there;
+    const uint8_t *p = lend(*bytes, all, *bytes, 0);
+    free(all);
+    return p;
+}
+
+/* The index of the one Blas with an address, or 65,536 where there is none, or none with an id, or several. */
+static size_t the_one(const uint8_t *blases, size_t bytes, uint64_t address)
+{
+    size_t found = 65536, times = 0;
+    for (size_t i = 0; i < bytes / ZAKVIND_BLAS_BYTES; i++) {
+        input in = {blases + i * ZAKVIND_BLAS_BYTES + 12, 8};
+        if (number(&in, 8) == address)
+            found = i, times++;
+    }
+    return times == 1 && found < 65536 ? found : 65536;
+}
+
+/* What `whole` records are refused by, and which, by a scan of the Blases for each; else their items go to `items`. */
+static uint64_t judged(const uint8_t *records, size_t whole, const uint8_t *blases, size_t b, uint8_t *items, uint64_t *record)
+{
+    for (*record = 0; *record < whole; ++*record) {
+        const uint8_t *r = records + *record * ZAKVIND_INSTANCE_BYTES;
+        uint8_t *item = items + *record * ZAKVIND_INSTANCE_FIELDS_BYTES;
+        input word = {r + 52, 4}, address = {r + 56, 8};
+        const size_t id = the_one(blases, b, number(&address, 8));
+        if (number(&word, 4))
+            return ZAKVIND_WORD_NOT_ZERO;
+        if (id == 65536)
+            return ZAKVIND_NOT_ONE_BLAS;
+        item[0] = (uint8_t)(id % 256);
+        item[1] = (uint8_t)(id / 256);
+        memcpy(item + 2, r + 48, 3);
+        item[5] = 0;
+        item[6] = r[51];
+        memcpy(item + 7, r, 48);
+    }
+    *record = 0;
+    return 0;
+}
+
+/* Records into `room`, into exactly as much as is needed and into a byte less, held to a scan of the Blases for each; what is
+ * accepted is appended, and gives the same bytes. After a 255 the Blases stand after 65,535 others. */
+static void call_instances(input *in)
+{
+    enum { ITEM = ZAKVIND_INSTANCE_FIELDS_BYTES, BYTES = ZAKVIND_INSTANCE_BYTES };
+    const size_t before = number(in, 1) == 255 ? 65535 : 0;
+    size_t b = number(in, 2), n = number(in, 2);
+    const size_t room = number(in, 2);
+    const uint8_t *blases = take_blases(in, before, &b);
+    /* so many Blases are looked through for a few alone */
+    if (before && n > 4 * BYTES)
+        n = 4 * BYTES + n % BYTES;
+    const uint8_t *records = take(in, &n, 1, 1);
+    const size_t needed = n / BYTES * ITEM;
+    uint8_t *expected = malloc(needed ? needed : 1);
+    uint64_t record, refused = judged(records, n / BYTES, blases, b, expected, &record);
+    if (n % BYTES)
+        refused = ZAKVIND_UNEVEN_LENGTH, record = 0;
+    const size_t rooms[3] = {room, needed, needed ? needed - 1 : 0};
+    for (int i = 0; i < 3; i++) {
+        uint8_t *items = lend(rooms[i], NULL, 0, 1);
+        const zakvind_instances_read a = zakvind_read_instances(records, n, blases, b, items, rooms[i]);
+        given(15, (const uint64_t *)&a, 4);
+        const uint64_t why = refused ? refused : rooms[i] < needed ? ZAKVIND_OUTPUT_TOO_SHORT : 0;
+        must(a.number == why && a.e0 == record && a.e1 == 0, "48 before all, 49 and 50 of the first bad record, then 39");
+        must(a.written == (why ? 0 : needed), "items are written whole or not");
+        kept(2, a.written, "what is past the items is kept, and all where they are refused");
+        seen(2, a.written);
+        must(why || memcmp(items, expected, needed) == 0, "they are the records' by their bits, whatever the room");
+        speak(10, a.number, a.e0, a.e1, 0, 0, 0);
+        done_from(2);
+    }
+    if (!refused) {
+        /* a Tlas that returns no vertices */
+        static const uint8_t zeros[ZAKVIND_TLAS_BYTES];
+        const uint8_t *tlases = lend(sizeof zeros, zeros, sizeof zeros, 0), *items = lend(needed, expected, needed, 0);
+        uint8_t *again = lend(n, NULL, 0, 1);
+        const zakvind_appended a = zakvind_append_instances(tlases, sizeof zeros, blases, b, 0, items, needed, again, n, 0);
+        must(a.number == 0 && a.used == n && memcmp(again, records, n) == 0, "what is accepted is written as it was");
+    }
+    free(expected);
+    kept(0, 0, "the Blases are kept");
+    kept(1, 0, "the records are kept");
+}
+
+/* What was written of items, read back: as it was where each address stands once. */
+static void read_back(const uint8_t *written, size_t n, const uint8_t *blases, size_t b, const uint8_t *items)
+{
+    const size_t needed = n / ZAKVIND_INSTANCE_BYTES * ZAKVIND_INSTANCE_FIELDS_BYTES;
+    const int k = count;
+    uint8_t *expected = malloc(needed ? needed : 1);
+    uint64_t record;
+    const uint64_t refused = judged(written, n / ZAKVIND_INSTANCE_BYTES, blases, b, expected, &record);
+    const uint8_t *records = lend(n, written, n, 0);
+    uint8_t *back = lend(needed, NULL, 0, 1);
+    const zakvind_instances_read a = zakvind_read_instances(records, n, blases, b, back, needed);
+    given(15, (const uint64_t *)&a, 4);
+    must(refused == 0 || refused == ZAKVIND_NOT_ONE_BLAS, "what is written is refused for its addresses alone");
+    must(a.number == refused && a.e0 == record && a.written == (refused ? 0 : needed), "what was written is read");
+    must(refused || memcmp(back, items, needed) == 0, "it comes back as it was");
+    free(expected);
+    done_from(k);
+}
+
 /* An instance alone, with room for it; where it is accepted its bytes go to `bytes`. */
 static zakvind_appended alone(const uint8_t *tlases, size_t t, const uint8_t *blases, size_t b, uint16_t tlas, const uint8_t *item,
                               uint8_t *bytes)
@@ -441,6 +560,7 @@ static void call_many(input *in)
     } else {
         must(r.used == used + needed, "64 bytes are appended for each");
         must(memcmp(instances + used, each, needed) == 0, "they are those of each alone, one after the other");
+        read_back(each, needed, blases, b, items);
         kept(3, r.used, "what is past them is kept");
         must(!lents[3].before || memcmp(instances, lents[3].before, used) == 0, "what was in use is kept");
     }
@@ -513,7 +633,7 @@ int LLVMFuzzerTestOneInput(const uint8_t *data, size_t size)
     case 4: call_groups(&in); break;
     case 5: call_many(&in); break;
     case 6: call_build(&in, 1); break;
-    default: break;
+    default: call_instances(&in); break;
     }
     done_from(0);
     return 0;

@@ -12,7 +12,7 @@ What long runs of the static library gave, each as the run printed it: written b
 """
 EMPTY = {"compare": "## Against the Rust\n\nNot run.\n", "robust": "## At the boundary\n\nNot run.\n"}
 NAMES = """Of version 2: `sheet_2` reads a sheet, `wide` builds with all offsets below 2^32, `above` with one from 2^32 on, of which the Rust says nothing;
-`to_2` and `to_1` convert a sheet."""
+`to_2` and `to_1` convert a sheet. `back` reads instances back from their records, of a case or as `append` or `many` wrote them."""
 file = pathlib.Path(__file__).resolve().parent.parent / "docs/RUNS.md"
 
 
@@ -28,7 +28,7 @@ def compare(command, lines):
     parts = [re.fullmatch(r"  (.+?) +(\d+) +(\d+) +(\d+)", line) for line, row in zip(lines, rows) if not row]
     out += ["", f"| Call | No. | {marks}", "|---|---|---|---|---|"]
     out += ["| " + " | ".join((r[1], r[2], *map(number, r.groups()[2:]))) + " |" for r in rows if r]
-    out += ["", f"| Of accepted answers, of 37 and of 39 | {marks}", "|---|---|---|---|"]
+    out += ["", f"| Of accepted answers, of 37, of 39 and of 50 | {marks}", "|---|---|---|---|"]
     out += ["| " + " | ".join((p[1], *map(number, p.groups()[1:]))) + " |" for p in parts if p]
     out += ["", next(line for line in lines if line.startswith("not reached")).capitalize() + "."]
     return "\n".join(out) + "\n"

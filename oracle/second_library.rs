@@ -8,6 +8,8 @@ mod canonical;
 mod convert;
 #[path = "src/groups.rs"]
 mod groups;
+#[path = "src/instances.rs"]
+mod instances;
 #[path = "src/layout.rs"]
 mod layout;
 #[path = "src/many.rs"]
@@ -179,6 +181,18 @@ pub unsafe extern "C" fn zakvind_to_version_1(sheet: *const u8, n: usize, out: *
 #[no_mangle]
 pub unsafe extern "C" fn zakvind_open_groups(groups: *const u8, n: usize, slots: *mut u8, m: usize) -> Numbers<5> {
     Numbers(reading().open(lent(groups, n), lent_mut(slots, m)))
+}
+
+#[no_mangle]
+pub unsafe extern "C" fn zakvind_read_instances(
+    records: *const u8,
+    n0: usize,
+    blases: *const u8,
+    n1: usize,
+    items: *mut u8,
+    n2: usize,
+) -> Numbers<4> {
+    Numbers(reading().read_instances(lent(records, n0), lent(blases, n1), lent_mut(items, n2)))
 }
 
 #[no_mangle]

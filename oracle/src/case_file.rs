@@ -6,6 +6,9 @@ use crate::side::{Case, Part};
 
 const ROOMS: [&str; 7] = ["blas_offsets", "tlas_offsets", "staging_ranges", "instances", "init_ranges", "compactable", "lists"];
 
+/// The parts of an outcome that are answers.
+const ANSWERS: [&str; 11] = ["read", "report", "write", "to_2", "to_1", "build", "submit", "append", "many", "open", "back"];
+
 fn hex(bytes: &[u8]) -> String {
     bytes.iter().map(|b| format!("{b:02x}")).collect()
 }
@@ -91,6 +94,13 @@ pub fn write(case: &Case) -> String {
         Case::Groups { bytes, room } => {
             let _ = writeln!(out, "room {room}\nbytes {}", hex(bytes));
         }
+        Case::Instances { blases, records, room } => {
+            let _ = writeln!(out, "room {room}");
+            for record in records.chunks(64) {
+                let _ = writeln!(out, "record {}", hex(record));
+            }
+            write_table(&mut out, Version::One, BLASES, blases);
+        }
     }
     out
 }
@@ -103,7 +113,7 @@ pub fn read(text: &str) -> Result<Case, String> {
     let mut tables: [Vec<u8>; 9] = Default::default();
     let (mut head, mut alignment, mut indices, mut rooms, mut sheet_room) = ([1, 256, 1], 256, [0, 1], [0; 7], 0);
     let (mut bytes, mut counts, mut cells, mut actions, mut pieces) = (None, Vec::new(), Vec::new(), Vec::new(), Vec::new());
-    let (mut tlas, mut instance, mut items, mut room, mut used) = (0, [0; 55], Vec::new(), 0, 0);
+    let (mut tlas, mut instance, mut items, mut records, mut room, mut used) = (0, [0; 55], Vec::new(), Vec::new(), 0, 0);
     for line in lines {
         let bad = || format!("not understood: {line}");
         let words: Vec<&str> = line.split_whitespace().collect();
@@ -132,7 +142,7 @@ pub fn read(text: &str) -> Result<Case, String> {
             ("indices", _) => indices = rest(1)?.try_into().map_err(|_| bad())?,
             ("room", "sheet" | "wide sheet") => sheet_room = words.get(1).and_then(|w| w.parse().ok()).ok_or_else(bad)?,
             ("room", "append" | "many") => (room, used) = (number(1)?, number(2)?),
-            ("room", "groups") => room = number(1)?,
+            ("room", "groups" | "instances") => room = number(1)?,
             ("room", _) => {
                 let k = ROOMS.iter().position(|n| Some(n) == words.get(1)).ok_or_else(bad)?;
                 rooms[k] = number(2)? as usize;
@@ -155,6 +165,7 @@ pub fn read(text: &str) -> Result<Case, String> {
             }
             ("into", _) => tlas = number(1)? as u16,
             ("item", _) => items.extend(unhex(words.get(1).ok_or_else(bad)?).ok_or_else(bad)?),
+            ("record", _) => records.extend(unhex(words.get(1).ok_or_else(bad)?).ok_or_else(bad)?),
             _ => return Err(bad()),
         }
     }
@@ -174,6 +185,7 @@ pub fn read(text: &str) -> Result<Case, String> {
         "append" => Ok(Case::Append { tlases, blases, tlas, instance, room: room as usize, used }),
         "many" => Ok(Case::Many { tlases, blases, tlas, items, room: room as usize, used }),
         "groups" => Ok(Case::Groups { bytes: bytes.unwrap_or_default(), room: room as usize }),
+        "instances" => Ok(Case::Instances { blases, records, room: room as usize }),
         _ => Err(format!("no such kind of case: {kind}")),
     }
 }
@@ -182,7 +194,7 @@ pub fn read(text: &str) -> Result<Case, String> {
 pub fn difference(rust: &[Part], other: &[Part]) -> String {
     let mut out = String::new();
     for (a, b) in rust.iter().zip(other) {
-        let answer = ["read", "report", "write", "to_2", "to_1", "build", "submit", "append", "many", "open"].contains(&a.name);
+        let answer = ANSWERS.contains(&a.name);
         if answer || a != b {
             let mark = if a == b { " " } else { "*" };
             if answer || a.values.len() <= 8 {

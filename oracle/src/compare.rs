@@ -6,10 +6,10 @@ use published::drive::Mark;
 
 use crate::rust_side::{guarded, RustSide, Tally};
 use crate::side::{Case, Part, Side};
-use crate::{case_file, generate, shrink, watch};
+use crate::{case_file, generate, instances, shrink, watch};
 
 /// Numbers that the Rust, its stand-ins or the paper can give, by call.
-const CAN_GIVE: [(&str, &[u64]); 9] = [
+const CAN_GIVE: [(&str, &[u64]); 10] = [
     ("sheet", &[0, 1, 2, 3, 4, 5]),
     ("to_2", &[0, 1, 2, 3, 4, 5, 39]),
     ("to_1", &[0, 1, 2, 3, 4, 5, 39, 47]),
@@ -31,6 +31,7 @@ const CAN_GIVE: [(&str, &[u64]); 9] = [
     ("append", &[0, 6, 34, 35, 39]),
     ("many", &[0, 5, 6, 34, 35, 39]),
     ("open", &[0, 2, 3, 4, 5, 39, 45, 46]),
+    ("back", &[0, 39, 48, 49, 50]),
 ];
 
 /// Of these calls counted apart: sheets of version 2, and builds of version 2 with an offset from 2^32 on, of which the Rust says nothing.
@@ -48,6 +49,9 @@ const APART: [(&str, &[u64]); 2] = [
 fn can_give() -> impl Iterator<Item = (&'static str, &'static [u64])> {
     CAN_GIVE.into_iter().chain(APART)
 }
+
+/// How many lines of a case are shown: rarely its Blases are more than 65,536.
+const LINES: usize = 200;
 
 /// What both sides make of a case; an error is a panic, of either.
 pub fn both(rust: &mut RustSide, other: &mut dyn Side, case: &Case) -> (Result<Vec<Part>, String>, Result<Vec<Part>, String>) {
@@ -82,7 +86,7 @@ fn print_tally(tally: &Tally) {
             println!("  {call:<7} {n:>2} {:>10} {:>10} {:>10}", marks[0], marks[1], marks[2]);
         }
     }
-    println!("and of accepted ones, of 37 and of 39, by part: the Rust's own, a stand-in's, the paper's");
+    println!("and of accepted ones, of 37, of 39 and of 50, by part: the Rust's own, a stand-in's, the paper's");
     let mut names: Vec<&str> = tally.parts.keys().map(|k| k.0).collect();
     names.dedup();
     for name in names {
@@ -100,6 +104,7 @@ fn missing(tally: &Tally) -> Vec<String> {
             }
         }
     }
+    missing.extend(instances::NOT_ONE.into_iter().filter(|why| !tally.parts.keys().any(|k| k.0 == *why)).map(String::from));
     missing
 }
 
@@ -124,11 +129,14 @@ pub fn run(other: &mut dyn Side, name: &str, count: u64, seed: u64, most: usize,
             let small = shrink::shrink(case, &mut |c| differs(&mut spare, other, c));
             let file = format!("{out}/difference-{seed}-{index}");
             let _ = std::fs::create_dir_all(out);
-            let _ = std::fs::write(format!("{file}.case"), case_file::write(&small));
+            let text = case_file::write(&small);
+            let _ = std::fs::write(format!("{file}.case"), &text);
             if let Case::Sheet { bytes, .. } = &small {
                 let _ = std::fs::write(format!("{file}.sheet"), bytes);
             }
-            println!("{}", case_file::write(&small));
+            text.lines().take(LINES).for_each(|line| println!("{line}"));
+            let left = text.lines().skip(LINES).count();
+            println!("{}", if left == 0 { String::new() } else { format!("and {left} lines more") });
             show(&mut spare, other, &small);
             println!("written to {file}.case");
         }
@@ -147,7 +155,8 @@ pub fn run(other: &mut dyn Side, name: &str, count: u64, seed: u64, most: usize,
     let counts: Vec<String> = kinds.iter().map(|(k, n)| format!("{n} {k}")).collect();
     let seconds = start.elapsed().as_secs_f64();
     println!(
-        "{name}: {run} cases, and sheets and builds once more in version 2 ({}), seed {seed}, {seconds:.1} s: {differences} differences",
+        "{name}: {run} cases, with sheets and builds once more in version 2 and records of instances ({}), seed {seed}, \
+         {seconds:.1} s: {differences} differences",
         counts.join(", ")
     );
     // so many cases reach every number, or the cases are not what they were

@@ -1,5 +1,5 @@
 //! Cases in the bytes that robust.c takes apart.
-use crate::layout::Version;
+use crate::layout::{Version, BLASES, SIZES};
 use crate::side::Case;
 
 fn put<T: Into<u64> + Copy>(out: &mut Vec<u8>, values: &[T], width: usize) {
@@ -72,6 +72,18 @@ pub fn bytes(case: &Case, text: usize) -> Option<Vec<u8>> {
             out.push(4);
             put(&mut out, &[*room as u16], 2);
             out.extend_from_slice(bytes);
+        }
+        Case::Instances { blases, records, room } => {
+            let n = [blases.len(), records.len(), *room];
+            if !fits(&n) {
+                return None;
+            }
+            // 255: with 65,535 others before them; of some cases, since it takes long
+            let before = if (2..=4).contains(&(blases.len() / SIZES[BLASES])) { 255 } else { 0 };
+            out.extend([7, before]);
+            put(&mut out, &lens(&n), 2);
+            out.extend_from_slice(blases);
+            out.extend_from_slice(records);
         }
     }
     Some(out)

@@ -236,6 +236,73 @@ fn conversions() -> Vec<Conversion> {
     ]
 }
 
+/// What request 7 says of records: the Blases' addresses, the records, room, number and record, and the items that are written.
+type Reading = (&'static str, Vec<u64>, Vec<u8>, usize, [u64; 2], Vec<u8>);
+
+/// Patterns of an f32 without its sign: zero, subnormal and normal ones, infinity, signalling and quiet NaNs with their payloads.
+const PATTERNS: [u32; 12] = [
+    0,
+    1,
+    0x40_0000,
+    0x7f_ffff,
+    0x80_0000,
+    0x7f7f_ffff,
+    0x7f80_0000,
+    0x7f80_0001,
+    0x7fbf_ffff,
+    0x7fc0_0000,
+    0x7fd5_5555,
+    0x7fff_ffff,
+];
+
+fn words(numbers: &[u32]) -> Vec<u8> {
+    numbers.iter().flat_map(|n| n.to_le_bytes()).collect()
+}
+
+/// Of these numbers, with custom data and mask in one u32.
+fn record_of(numbers: [u32; 12], packed: u32, word: u32, address: u64) -> Vec<u8> {
+    [words(&numbers), words(&[packed, word]), address.to_le_bytes().to_vec()].concat()
+}
+
+fn item_of(blas: u16, custom_data: u32, mask: u8, numbers: [u32; 12]) -> Vec<u8> {
+    [&blas.to_le_bytes()[..], &custom_data.to_le_bytes(), &[mask], &words(&numbers)].concat()
+}
+
+fn readings() -> Vec<Reading> {
+    let numbers = [0x3f80_0000; 12];
+    let (plain, item) = (|address| record_of(numbers, 0, 0, address), |blas| item_of(blas, 0, 0, numbers));
+    let odd = |word, address| record_of(numbers, 0, word, address);
+    let packed = |packed| record_of(numbers, packed, 0, 5);
+    // each in each of the twelve places, of either sign
+    let signed: Vec<[u32; 12]> =
+        (0..12).flat_map(|k| [0, 1 << 31].map(|sign| std::array::from_fn(|i| PATTERNS[(i + k) % 12] | sign))).collect();
+    let (records, items): (Vec<_>, Vec<_>) = signed.iter().map(|n| (record_of(*n, 0, 0, 7), item_of(0, 0, 0, *n))).unzip();
+    let nothing = Vec::new;
+    vec![
+        ("no records", vec![1], nothing(), 0, [0, 0], nothing()),
+        ("the second of three", vec![4, 5, 6], plain(5), 55, [0, 0], item(1)),
+        ("every class of number", vec![7], records.concat(), 24 * 55, [0, 0], items.concat()),
+        ("address 0", vec![5, 0], plain(0), 55, [0, 0], item(1)),
+        ("address 2^64 - 1", vec![5, 0, TOP], plain(TOP), 55, [0, 0], item(2)),
+        ("an address in its high half", vec![5, 5 | 1 << 32], plain(5 | 1 << 32), 55, [0, 0], item(1)),
+        ("custom data 2^24 - 1, mask 1", vec![5], packed(0x1ff_ffff), 55, [0, 0], item_of(0, 0xff_ffff, 1, numbers)),
+        ("custom data 2^23, mask 128", vec![5], packed(0x8080_0000), 55, [0, 0], item_of(0, 1 << 23, 128, numbers)),
+        ("no Blas", vec![], plain(5), 55, [50, 0], nothing()),
+        ("no Blas has it", vec![4, 6], [plain(6), plain(5)].concat(), 110, [50, 1], nothing()),
+        ("two have it", vec![5, 4, 5], [plain(4), plain(5)].concat(), 110, [50, 1], nothing()),
+        ("two have another", vec![4, 5, 4], plain(5), 55, [0, 0], item(1)),
+        ("a part of a length of 64", vec![5], plain(5)[..63].to_vec(), 55, [48, 0], nothing()),
+        ("48 before all", vec![5], [odd(1, 6), vec![0]].concat(), 0, [48, 0], nothing()),
+        ("49", vec![5], [plain(5), odd(1, 5)].concat(), 110, [49, 1], nothing()),
+        ("49 by its last bit", vec![5], odd(1 << 31, 5), 55, [49, 0], nothing()),
+        ("49 before 50 of a record", vec![5], odd(1, 6), 55, [49, 0], nothing()),
+        ("50 of the first before 49 of the second", vec![5], [plain(6), odd(1, 5)].concat(), 110, [50, 0], nothing()),
+        ("39", vec![5], plain(5), 54, [39, 0], nothing()),
+        ("39 after 50", vec![5], [plain(5), plain(6)].concat(), 55, [50, 1], nothing()),
+        ("39 after 49", vec![5], odd(1, 5), 0, [49, 0], nothing()),
+    ]
+}
+
 /// Answers and counters of submissions on what the one before left.
 pub type Answers = Vec<([u64; 4], u64)>;
 
@@ -286,6 +353,18 @@ pub fn run(other: Option<(&mut dyn Side, &str)>) -> bool {
             if ([number, place], n as usize) != (expected, written.len()) || out != whole {
                 bad += 1;
                 println!("{name}: {what}: expected {expected:?} and {} bytes, got {number}, {place} and {n}", written.len());
+            }
+        }
+        for (what, addresses, records, room, expected, items) in readings() {
+            let mut raw = Raw::default();
+            addresses.iter().for_each(|&address| raw.push(BLASES, &[1, 2, 3, 1, 0, address, 0]));
+            let mut out = vec![7; room + 9];
+            let answer = side.read_instances(&records, &raw.table(BLASES), &mut out[..room]);
+            let whole = [&items[..], &vec![7; out.len() - items.len()]].concat();
+            count += 1;
+            if answer != [expected[0], expected[1], 0, items.len() as u64] || out != whole {
+                bad += 1;
+                println!("{name}: {what}: expected {expected:?} and {} bytes, got {answer:?}", items.len());
             }
         }
         for (what, case, expected) in submissions() {

@@ -1275,16 +1275,202 @@ fn groups(r: &mut Rng) -> Case {
     Case::Groups { bytes, room: room.min(40_000) as usize }
 }
 
-/// Case `index` of a seed; a sheet or a build is followed by the same in version 2.
+/// Bit patterns of an f32 of every class and either sign: zeros, subnormal and normal ones, infinities, quiet and signalling NaNs.
+fn number_bits(r: &mut Rng) -> u64 {
+    let (part, any) = (r.from(1, 0x3f_ffff), r.u32());
+    let subnormal = r.pick(&[1, 0x3f_ffff, 0x40_0000, 0x7f_ffff, part]);
+    let normal = r.pick(&[0x80_0000, 0x3f80_0000, 0x7f7f_ffff, any]);
+    let signalling = 0x7f80_0000 | r.pick(&[1, 0x3f_ffff, part, part]);
+    let quiet = 0x7fc0_0000 | r.pick(&[0, 0x3f_ffff, part, part]);
+    r.pick(&[0, subnormal, normal, 0x7f80_0000, signalling, quiet]) | r.below(2) << 31
+}
+
+/// An index of a table, about the places at which ids or an index of the table may end, or any.
+fn about(r: &mut Rng, n: usize) -> usize {
+    let (place, any) = (r.pick(&[0, 127, 128, 255, 256, 65535, 65536, 65536, n]).min(n - 1), r.index(n));
+    r.pick(&[place, place, place, any, any])
+}
+
+/// Addresses, mostly all different: at random, or such that an index or a part of their bytes may take one for another.
+fn addresses(r: &mut Rng, n: usize) -> Vec<u64> {
+    let (any, odd) = (r.u64(), r.u64() | 1);
+    let near = [1, 8, 127, 128, 129, 255, 256, 257, 257, 4096, 65535, 65536, 65537, 256 * 257];
+    let step = if r.chance(60) { r.pick(&near) } else { r.pick(&[TOP32, 1 << 32, (1 << 32) + 1, 1 << 40, 1 << 56, odd]) };
+    let base = r.pick(&[0, 1, TOP, any, any & !0xff]);
+    let mut all: Vec<u64> = match r.below(10) {
+        0..3 => (0..n).map(|_| r.u64()).collect(),
+        // the halves of all come to the same
+        3 => (0..n as u64).map(|k| (k ^ any >> 32) << 32 | k).collect(),
+        _ => (0..n as u64).map(|k| base.wrapping_add(step.wrapping_mul(k))).collect(),
+    };
+    if r.chance(50) {
+        for i in (1..n).rev() {
+            let j = r.index(i + 1);
+            all.swap(i, j);
+        }
+    }
+    for edge in [0, TOP] {
+        if n > 0 && r.chance(20) {
+            let i = about(r, n);
+            all[i] = edge;
+        }
+    }
+    // one twice or more: side by side, or about
+    if n > 1 && r.chance(40) {
+        for _ in 0..r.pick(&[1, 1, 2, 3]) {
+            let (i, j) = (about(r, n), about(r, n));
+            let j = if r.chance(30) { (i + 1) % n } else { j };
+            let third = about(r, n);
+            all[j] = all[i];
+            if r.chance(40) {
+                all[third] = all[i];
+            }
+        }
+    }
+    all
+}
+
+/// A Blas with an address; nothing else of it is judged.
+fn blas_with(r: &mut Rng, address: u64) -> [u64; 7] {
+    let mut b: [u64; 7] = std::array::from_fn(|_| r.u64());
+    if r.chance(60) {
+        (b[blas::KIND], b[blas::STATE], b[blas::DESTROYED]) = (r.below(2), r.below(4), r.below(2));
+    }
+    // numbers that a Blas may be taken by as well
+    if r.chance(10) {
+        (b[blas::SCRATCH], b[blas::NUMBER]) = (address.wrapping_add(1), address.wrapping_add(2));
+    }
+    b[blas::ADDRESS] = address;
+    b
+}
+
+/// What a record holds: twelve numbers, custom data with the mask, the u32 that is 0, and an address.
+struct Held {
+    numbers: [u64; 12],
+    packed: u64,
+    word: u64,
+    address: u64,
+}
+
+impl Held {
+    fn bytes(&self) -> Vec<u8> {
+        let mut out = Vec::new();
+        self.numbers.iter().chain([&self.packed, &self.word]).for_each(|v| put_number(&mut out, *v, 4));
+        put_number(&mut out, self.address, 8);
+        out
+    }
+}
+
+fn held(r: &mut Rng, address: u64) -> Held {
+    let numbers = std::array::from_fn(|_| number_bits(r));
+    let (any, mask) = (r.u32(), r.byte());
+    let packed = r.pick(&[0, (1 << 24) - 1, 1 << 24, TOP32, 1 << 31, mask << 24 | 1 << 23, any, any, any]);
+    Held { numbers, packed, word: 0, address }
+}
+
+/// A word that is not 0, an address of no Blas or of several, or both; `left` is the address of a part record.
+fn spoil_held(r: &mut Rng, h: &mut Held, all: &[u64], several: &[u64], left: u64) {
+    let (bit, any, mine) = (r.below(32), r.u64(), h.address);
+    let word = r.pick(&[1, 255, 256, 1 << 23, 1 << 24, 1 << 31, TOP32, 1 << bit]);
+    let (high, low) = (r.from(1, TOP32) << 32, r.from(1, TOP32));
+    let near = [mine ^ high, mine ^ low, mine ^ 1 << bit, mine.wrapping_add(1), mine.wrapping_add(2), mine.swap_bytes()];
+    let none = [any, 0, TOP, left, left, r.pick(&near), r.pick(&near), r.pick(&near)];
+    let address = match several {
+        [_, ..] if r.chance(50) => r.pick(several),
+        // from where no Blas has an id
+        _ if all.len() > 1 << 16 && r.chance(70) => r.pick(&all[1 << 16..]),
+        _ => r.pick(&none),
+    };
+    match r.below(10) {
+        0..3 if all.len() < 1 << 16 => h.word = word,
+        0..8 => h.address = address,
+        _ => (h.word, h.address) = (word, address),
+    }
+}
+
+/// Records of instances and the Blases to find theirs among; rarely more of them than have an id.
+fn instances(r: &mut Rng) -> Case {
+    let (few, some, more) = (r.from(1, 12), r.from(13, 126), r.from(130, 400));
+    let far = r.below(80) == 0;
+    let n = match r.below(100) {
+        _ if far => r.pick(&[65536, 65537, 65537, 65538, 65600]),
+        0..4 => 0,
+        4..60 => few,
+        60..80 => some,
+        80..92 => r.pick(&[127, 128, 128, 129]),
+        _ => r.pick(&[255, 256, 257, more, more]),
+    } as usize;
+    let mut all = addresses(r, n);
+    // one below and one above
+    if n > 1 << 16 && r.chance(50) {
+        let (i, j) = (about(r, 1 << 16), (1 << 16) + r.index(n - (1 << 16)));
+        all[j] = all[i];
+    }
+    let mut blases = Raw::default();
+    for &address in &all {
+        let b = blas_with(r, address);
+        blases.push(BLASES, &b);
+    }
+    let mut table = blases.table(BLASES);
+    // a part record, mostly with the whole of an address
+    let any = r.u64();
+    let left = if n > 0 && r.chance(50) { all[r.index(n)] } else { any };
+    if r.chance(15) {
+        let (mut part, b) = (Raw::default(), blas_with(r, left));
+        part.push(BLASES, &b);
+        let some = r.index(28);
+        table.extend_from_slice(&part.table(BLASES)[..r.pick(&[1, 19, 20, 20, 27, 27, some])]);
+    }
+    let mut sorted: Vec<(u64, usize)> = all.iter().copied().zip(0..).collect();
+    sorted.sort_unstable();
+    let groups: Vec<&[(u64, usize)]> = sorted.chunk_by(|a, b| a.0 == b.0).collect();
+    let once: Vec<u64> = groups.iter().filter(|g| g.len() == 1 && g[0].1 < 1 << 16).map(|g| g[0].0).collect();
+    let several: Vec<u64> = groups.iter().filter(|g| g.len() > 1).map(|g| g[0].0).collect();
+    let (little, much) = (r.from(1, 12), r.from(13, 600));
+    let count = match r.below(100) {
+        0..5 => 0,
+        5..20 => 1,
+        96.. if !far => r.pick(&[much, much, 512]),
+        _ => little,
+    };
+    let mut records: Vec<Held> = (0..count)
+        .map(|_| {
+            // one that stands once, if there is one, about the same places
+            let place = if n > 0 { all[about(r, n)] } else { 0 };
+            let address = if once.is_empty() || once.binary_search(&place).is_ok() { place } else { r.pick(&once) };
+            held(r, address)
+        })
+        .collect();
+    if !records.is_empty() && r.chance(if far { 75 } else { 40 }) {
+        for _ in 0..r.pick(&[1, 1, 2, 3]) {
+            // the last is a boundary
+            let k = if r.chance(20) { records.len() - 1 } else { r.index(records.len()) };
+            spoil_held(r, &mut records[k], &all, &several, left);
+        }
+    }
+    let mut records: Vec<u8> = records.iter().flat_map(Held::bytes).collect();
+    if r.chance(10) {
+        let some = r.from(1, 63);
+        let part = r.pick(&[1, 32, 55, 56, 63, some]);
+        records.extend((0..part).map(|_| r.byte() as u8).collect::<Vec<u8>>());
+    }
+    let needed = records.len() / 64 * 55;
+    let less = r.pick(&[1, 1, 54, 55, 56, needed / 2, needed]);
+    let room = if r.chance(20) { needed.saturating_sub(less) } else { needed + r.pick(&[0, 0, 0, 0, 1, 54, 55, 300]) };
+    Case::Instances { blases: table, records, room }
+}
+
+/// Case `index` of a seed; a sheet or a build is followed by the same in version 2, and appended instances and groups, drawn after
+/// them, by records of instances.
 pub fn cases(seed: u64, index: u64) -> Vec<Case> {
     let r = &mut Rng::new(seed, index);
     match r.below(100) {
         0..40 => sheet(r),
         40..68 => build(r),
-        68..70 => vec![many(r)],
+        68..70 => vec![many(r), instances(r)],
         70..95 => vec![submission(r)],
-        95..98 => vec![append(r)],
-        _ => vec![groups(r)],
+        95..98 => vec![append(r), instances(r)],
+        _ => vec![groups(r), instances(r)],
     }
 }
 

@@ -1,4 +1,5 @@
 //! The static library, through the Rust binding.
+use crate::instances;
 use crate::layout::Version;
 use crate::side::{Lent, Outputs, Side};
 use zakvind::raw;
@@ -67,6 +68,50 @@ fn there_and_back(to: Version, sheet: &[u8], converted: &[u8]) {
     assert_eq!((before.alignment, before.counter), (after.alignment, after.counter));
     assert_eq!(before.sections.map(|s| s.count), after.sections.map(|s| s.count));
     assert!(text(sheet) == text(converted), "another text of a converted sheet");
+}
+
+/// "What it accepts, the writer turns back into the same bytes, 35 aside": for Tlases of either sort.
+fn written_again(records: &[u8], blases: &[u8], items: &[u8]) {
+    let tlases = instances::tlases();
+    let plain = items.as_chunks().0.iter().position(|item| !instances::returns(blases, item));
+    for tlas in [0, 1] {
+        let mut again = vec![0; records.len()];
+        let a = raw::append_instances(&tlases, blases, tlas, items, &mut again, 0);
+        let told = match plain {
+            Some(k) if tlas == 1 => (35, [0, k as u64], 0),
+            _ => (0, [0, 0], records.len() as u64),
+        };
+        assert_eq!((a.number, a.e, a.used), told, "what is accepted, appended to Tlas {tlas}");
+        assert!(a.number != 0 || again == records, "other bytes of Tlas {tlas}");
+    }
+}
+
+/// "an instance that the writer took and whose Blas address stands once in the table comes back as it was": items of the records'
+/// numbers that name Blases about the table, all of them, and those alone whose addresses stand once.
+fn appended_and_read(records: &[u8], blases: &[u8]) {
+    let (n, tlases) = (blases.len() / 28, instances::tlases());
+    let ids = n.min(1 << 16);
+    if ids == 0 {
+        return;
+    }
+    let item = |(k, record): (usize, &[u8; 64])| -> [u8; 55] {
+        let id = u16::try_from((instances::address(record) as usize ^ k) % ids).expect("an id");
+        let head = [&id.to_le_bytes()[..], &record[48..51], &[0], &record[51..52]].concat();
+        [&head, &record[..48]].concat().try_into().expect("55 bytes")
+    };
+    let all: Vec<[u8; 55]> = records.as_chunks().0.iter().enumerate().map(item).collect();
+    let once = |item: &[u8; 55]| instances::once(blases, item);
+    let alone: Vec<[u8; 55]> = all.iter().copied().filter(once).collect();
+    for items in [&all, &alone] {
+        let (mut written, mut back) = (vec![0; 64 * items.len()], vec![[0; 55]; items.len()]);
+        let a = raw::append_instances(&tlases, blases, 0, items.as_flattened(), &mut written, 0);
+        assert_eq!((a.number, a.used), (0, written.len() as u64), "items that name Blases are taken");
+        let a = raw::read_instances(&written, blases, back.as_flattened_mut());
+        match items.iter().position(|item| !once(item)) {
+            Some(k) => assert_eq!((a.number, a.e, a.written), (50, [k as u64, 0], 0), "an address that stands not once"),
+            None => assert!(a.number == 0 && back == *items, "what was written, read back"),
+        }
+    }
 }
 
 impl Side for Library {
@@ -167,5 +212,14 @@ impl Side for Library {
     fn open(&mut self, groups: &[u8], slots: &mut [u8]) -> [u64; 5] {
         let a = raw::open_groups(groups, slots);
         [a.number, a.place, a.group, a.item, a.written]
+    }
+
+    fn read_instances(&mut self, records: &[u8], blases: &[u8], items: &mut [u8]) -> [u64; 4] {
+        let a = raw::read_instances(records, blases, items);
+        if a.number == 0 {
+            written_again(records, blases, &items[..a.written as usize]);
+        }
+        appended_and_read(records, blases);
+        [a.number, a.e[0], a.e[1], a.written]
     }
 }

@@ -8,6 +8,7 @@ mod corpus;
 mod examples;
 mod generate;
 mod groups;
+mod instances;
 mod layout;
 #[cfg(library)]
 mod library;
@@ -119,7 +120,7 @@ fn run() {
         // each fault of the second reading must be found
         Some("faults") => {
             let Some(count) = word(1).and_then(|w| w.parse().ok()) else { usage() };
-            let all = reading::FAULTS + groups::FAULTS + many::FAULTS + convert::FAULTS;
+            let all = reading::FAULTS + groups::FAULTS + many::FAULTS + convert::FAULTS + instances::FAULTS;
             let missed: Vec<u32> = (1..=all)
                 .filter(|&fault| {
                     let name = format!("fault {fault}");

@@ -971,4 +971,9 @@ impl Side for Reading {
     fn open(&mut self, groups: &[u8], slots: &mut [u8]) -> [u64; 5] {
         crate::groups::open(groups, slots, self.fault.saturating_sub(FAULTS))
     }
+
+    fn read_instances(&mut self, records: &[u8], blases: &[u8], items: &mut [u8]) -> [u64; 4] {
+        let before = FAULTS + crate::groups::FAULTS + crate::many::FAULTS + crate::convert::FAULTS;
+        crate::instances::read(records, blases, items, self.fault.saturating_sub(before))
+    }
 }

@@ -7,7 +7,7 @@ use published::input::{Input, Package};
 
 use crate::layout::{Version, SIZES};
 use crate::side::{Lent, Outputs, Side};
-use crate::{above, convert, paper};
+use crate::{above, convert, instances, paper};
 
 /// Numbers given, by call and mark; and how much else was compared, by what it is and mark.
 #[derive(Default, Clone)]
@@ -645,6 +645,34 @@ impl Side for RustSide {
     fn open(&mut self, groups: &[u8], slots: &mut [u8]) -> [u64; 5] {
         let answer = crate::groups::open(groups, slots, 0);
         self.tally.answer("open", answer[0], Mark::Paper);
+        answer
+    }
+
+    /// By a second reading of the request: the Rust reads no instances. What is accepted it is given, each alone, for Tlases of
+    /// either sort, and writes the same bytes, 35 aside.
+    fn read_instances(&mut self, records: &[u8], blases: &[u8], items: &mut [u8]) -> [u64; 4] {
+        let answer = instances::read(records, blases, items, 0);
+        self.tally.answer("back", answer[0], Mark::Paper);
+        let (records, tlases) = (records.as_chunks().0, instances::tlases());
+        let standing = |record| instances::standing(blases, instances::address(record));
+        match answer[0] {
+            0 => {
+                for (record, item) in records.iter().zip(items.as_chunks().0) {
+                    assert_eq!(standing(record), (1, 0), "the address of one Blas");
+                    assert!(instance_alone(&tlases, blases, 0, item).is_ok_and(|bytes| bytes == record), "other bytes of the Rust");
+                    match instance_alone(&tlases, blases, 1, item) {
+                        Ok(bytes) => assert!(instances::returns(blases, item) && bytes == record, "other bytes of the Rust"),
+                        Err((number, _)) => assert_eq!((number, instances::returns(blases, item)), (35, false)),
+                    }
+                }
+                self.tally.part("instances read, as the Rust writes them", Mark::StandIn, records.len());
+            }
+            50 => {
+                let why = instances::not_one(standing(&records[answer[1] as usize]));
+                self.tally.part(why, Mark::Paper, 1);
+            }
+            _ => {}
+        }
         answer
     }
 }

@@ -1,4 +1,5 @@
 //! Makes a failing case smaller while it still fails: records and actions are dropped, ids moved down, numbers lowered.
+use crate::instances;
 use crate::layout::*;
 use crate::side::Case;
 
@@ -131,18 +132,12 @@ fn smaller_bytes(bytes: &[u8]) -> Vec<Vec<u8>> {
     all
 }
 
-/// Without some of the units of `unit` elements: halves, quarters, and so on to single ones.
-fn without_units<T: Clone>(values: &[T], unit: usize) -> Vec<Vec<T>> {
+/// Without some of the units of `unit` elements: halves, quarters, and so on to single ones; each is made when it is asked for.
+fn without_units<T: Clone>(values: &[T], unit: usize) -> impl Iterator<Item = Vec<T>> + '_ {
     let n = values.len().div_ceil(unit);
-    let (mut all, mut size) = (Vec::new(), n);
-    while size > 0 {
-        for at in (0..n).step_by(size) {
-            let (from, to) = (at * unit, ((at + size) * unit).min(values.len()));
-            all.push([&values[..from], &values[to..]].concat());
-        }
-        size /= 2;
-    }
-    all
+    let sizes = std::iter::successors(Some(n), |size| Some(size / 2)).take_while(|&size| size > 0);
+    let places = sizes.flat_map(move |size| (0..n).step_by(size).map(move |at| (at, at + size)));
+    places.map(move |(from, to)| [&values[..from * unit], &values[(to * unit).min(values.len())..]].concat())
 }
 
 fn smaller_submission(case: &Case, take: &mut dyn FnMut(Case) -> bool) -> bool {
@@ -311,10 +306,10 @@ macro_rules! with {
 macro_rules! smaller_lent {
     ($take:ident, $case:ident, $variant:ident) => {
         if let Case::$variant { tlases, blases, tlas, room, used, .. } = $case {
-            for less in without_units(tlases, SIZES[TLASES]).into_iter().chain(zeroed(tlases)) {
+            for less in without_units(tlases, SIZES[TLASES]).chain(zeroed(tlases)) {
                 with!($take, $case, $variant, tlases: less);
             }
-            for less in without_units(blases, SIZES[BLASES]).into_iter().chain(zeroed(blases)) {
+            for less in without_units(blases, SIZES[BLASES]).chain(zeroed(blases)) {
                 with!($take, $case, $variant, blases: less);
             }
             for v in lower(*used) {
@@ -382,6 +377,44 @@ fn smaller_groups(case: &Case, take: &mut dyn FnMut(Case) -> bool) -> bool {
     smaller_bytes(bytes).into_iter().any(|bytes| take(Case::Groups { bytes, room: *room }))
 }
 
+/// Fewer records, with as much less room too; then fewer Blases, and lower bytes of both.
+fn smaller_instances(case: &Case, take: &mut dyn FnMut(Case) -> bool) -> bool {
+    let Case::Instances { blases, records, room } = case else { return false };
+    for less in without_units(records, 64) {
+        let fewer = 55 * (records.len() / 64 - less.len() / 64);
+        with!(take, case, Instances, records: less.clone(), room: room.saturating_sub(fewer));
+        with!(take, case, Instances, records: less);
+    }
+    if records.len() % 64 != 0 {
+        with!(take, case, Instances, records: records[..records.len() - 1].to_vec());
+    }
+    for less in without_units(blases, SIZES[BLASES]) {
+        with!(take, case, Instances, blases: less);
+    }
+    for v in lower(*room as u64) {
+        with!(take, case, Instances, room: v as usize);
+    }
+    // an address wherever it stands
+    let addresses: std::collections::BTreeSet<u64> = records.as_chunks().0.iter().map(instances::address).collect();
+    for (old, new) in addresses.iter().zip(1u64..).filter(|(old, new)| **old > *new) {
+        let lowered = |bytes: &[u8], at: usize, size: usize| -> Vec<u8> {
+            let mut bytes = bytes.to_vec();
+            for unit in bytes.chunks_exact_mut(size).filter(|unit| unit[at..at + 8] == old.to_le_bytes()) {
+                unit[at..at + 8].copy_from_slice(&new.to_le_bytes());
+            }
+            bytes
+        };
+        with!(take, case, Instances, records: lowered(records, 56, 64), blases: lowered(blases, 12, SIZES[BLASES]));
+    }
+    for less in zeroed(records) {
+        with!(take, case, Instances, records: less);
+    }
+    for less in zeroed(blases) {
+        with!(take, case, Instances, blases: less);
+    }
+    false
+}
+
 /// The smallest case that is found and still fails. After a smaller case was taken the search goes on where it was.
 pub fn shrink(mut case: Case, fails: &mut dyn FnMut(&Case) -> bool) -> Case {
     let start = std::time::Instant::now();
@@ -409,6 +442,7 @@ pub fn shrink(mut case: Case, fails: &mut dyn FnMut(&Case) -> bool) -> Case {
             Case::Append { .. } => smaller_append(&case, &mut take),
             Case::Many { .. } => smaller_many(&case, &mut take),
             Case::Groups { .. } => smaller_groups(&case, &mut take),
+            Case::Instances { .. } => smaller_instances(&case, &mut take),
         };
         match found {
             Some(c) => (case, from, better) = (c, at - 1, true),

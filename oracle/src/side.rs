@@ -1,4 +1,5 @@
 //! What is compared: calls in the exact bytes and cells that the static library takes, and all that each leaves.
+use crate::instances;
 use crate::layout::Version;
 
 /// A build's lent outputs, in the order of the exported function.
@@ -55,6 +56,8 @@ pub trait Side {
     fn convert(&mut self, to: Version, sheet: &[u8], out: &mut [u8]) -> [u64; 3];
     /// number, place, group, item, bytes written
     fn open(&mut self, groups: &[u8], slots: &mut [u8]) -> [u64; 5];
+    /// number, E, bytes written; `records` are 64 bytes each and `items` 55, end to end
+    fn read_instances(&mut self, records: &[u8], blases: &[u8], items: &mut [u8]) -> [u64; 4];
 }
 
 /// Elements past what is lent, which no call may touch.
@@ -121,6 +124,11 @@ pub enum Case {
         bytes: Vec<u8>,
         room: usize,
     },
+    Instances {
+        blases: Vec<u8>,
+        records: Vec<u8>,
+        room: usize,
+    },
 }
 
 /// Every answer and every lent element after a call, by name.
@@ -134,6 +142,25 @@ fn part<T: Copy + Into<u64>>(name: &'static str, values: &[T]) -> Part {
     Part { name, values: values.iter().map(|&v| v.into()).collect() }
 }
 
+/// "an instance that the writer took and whose Blas address stands once in the table comes back as it was": what an append that was
+/// accepted wrote, read.
+fn read_back(side: &mut dyn Side, append: &[u64; 7], instances: &[u8], used: u64, blases: &[u8], items: &[u8]) -> Vec<Part> {
+    if append[0] != 0 {
+        return Vec::new();
+    }
+    let n = items.len();
+    let mut back = pattern_u8(n);
+    let answer = side.read_instances(&instances[used as usize..append[6] as usize], blases, &mut back[..n]);
+    let once = |item: &[u8; 55]| instances::once(blases, item);
+    let told = match items.as_chunks().0.iter().position(|item| !once(item)) {
+        None => [0, 0, 0, n as u64],
+        Some(k) => [50, k as u64, 0, 0],
+    };
+    assert_eq!(answer, told, "what was written, read back");
+    assert!(answer[0] != 0 || back[..n] == *items, "other items than were written");
+    vec![part("back", &answer), part("items", &back)]
+}
+
 impl Case {
     pub fn kind(&self) -> &'static str {
         match self {
@@ -145,6 +172,7 @@ impl Case {
             Case::Append { .. } => "append",
             Case::Many { .. } => "many",
             Case::Groups { .. } => "groups",
+            Case::Instances { .. } => "instances",
         }
     }
 
@@ -240,20 +268,29 @@ impl Case {
                 let mut instances = pattern_u8(*room);
                 let answer = side.append(&given.0, &given.1, *tlas, &given.2, &mut instances[..*room], *used);
                 let kept = given.0 == *tlases && given.1 == *blases && given.2 == *instance;
-                vec![part("append", &answer), part("instances", &instances), part("inputs kept", &[u64::from(kept)])]
+                let parts = vec![part("append", &answer), part("instances", &instances), part("inputs kept", &[u64::from(kept)])];
+                [parts, read_back(side, &answer, &instances, *used, blases, instance)].concat()
             }
             Case::Many { tlases, blases, tlas, items, room, used } => {
                 let given = (tlases.clone(), blases.clone(), items.clone());
                 let mut instances = pattern_u8(*room);
                 let answer = side.append_many(&given.0, &given.1, *tlas, &given.2, &mut instances[..*room], *used);
                 let kept = given.0 == *tlases && given.1 == *blases && given.2 == *items;
-                vec![part("many", &answer), part("instances", &instances), part("inputs kept", &[u64::from(kept)])]
+                let parts = vec![part("many", &answer), part("instances", &instances), part("inputs kept", &[u64::from(kept)])];
+                [parts, read_back(side, &answer, &instances, *used, blases, items)].concat()
             }
             Case::Groups { bytes, room } => {
                 let given = bytes.clone();
                 let mut slots = pattern_u8(*room);
                 let answer = side.open(&given, &mut slots[..*room]);
                 vec![part("open", &answer), part("slots", &slots), part("inputs kept", &[u64::from(given == *bytes)])]
+            }
+            Case::Instances { blases, records, room } => {
+                let given = (blases.clone(), records.clone());
+                let mut items = pattern_u8(*room);
+                let answer = side.read_instances(&given.1, &given.0, &mut items[..*room]);
+                let kept = given.0 == *blases && given.1 == *records;
+                vec![part("back", &answer), part("items", &items), part("inputs kept", &[u64::from(kept)])]
             }
         }
     }

@@ -1,7 +1,7 @@
 //! A refusal in words, from the paper's table "Causes and what they cost" and the requests' causes: a second reading of it.
 
 /// The column "Cause", and the figures that are told.
-const CAUSES: [(u64, &str, &[&str]); 44] = [
+const CAUSES: [(u64, &str, &[&str]); 47] = [
     (1, "version neither 1 nor 2", &[]),
     (2, "sheet ends early", &[]),
     (3, "bytes after the sheet", &[]),
@@ -46,6 +46,9 @@ const CAUSES: [(u64, &str, &[&str]); 44] = [
     (45, "count 0, or a group that is not an earlier one", &[]),
     (46, "more than 512 slots", &[]),
     (47, "first vertex or primitive offset above 2^32 - 1", &[]),
+    (48, "length not in 64s", &[]),
+    (49, "u32 at byte 52 not 0", &[]),
+    (50, "address of no Blas or of several", &[]),
 ];
 
 fn item((word, value): (&&str, &u64)) -> String {
@@ -69,7 +72,7 @@ fn place(number: u64, sort: u64) -> &'static [&'static str] {
 }
 
 /// Whether a call can refuse with a number: 1 reads a sheet, 2 builds, 3 submits, 4 appends an instance, 5 writes a sheet, 6 opens groups,
-/// 7 appends many instances, 8 and 9 convert a sheet to version 2 and to version 1.
+/// 7 appends many instances, 8 and 9 convert a sheet to version 2 and to version 1, 10 reads instances back.
 fn refuses_with(call: u64, number: u64) -> bool {
     match call {
         1 => (1..=5).contains(&number),
@@ -81,12 +84,13 @@ fn refuses_with(call: u64, number: u64) -> bool {
         7 => matches!(number, 5 | 6 | 34 | 35 | 39),
         8 => matches!(number, 1..=5 | 39),
         9 => matches!(number, 1..=5 | 39 | 47),
+        10 => matches!(number, 39 | 48..=50),
         _ => false,
     }
 }
 
 /// A refusal of a call. E of a sheet, read, written or converted, is its place, of a submission the action and its kind, of groups the place, or the
-/// group and the item, of many instances 0, which is not told, and the position.
+/// group and the item, of many instances 0, which is not told, and the position, of instances read back the record.
 pub fn words(call: u64, number: u64, e: [u64; 2], f: [u64; 3]) -> String {
     if number == 0 {
         return "nothing is refused\n".into();
@@ -107,6 +111,7 @@ pub fn words(call: u64, number: u64, e: [u64; 2], f: [u64; 3]) -> String {
         7 if number == 6 && e[1] == 0 => line += ", Tlas or instance 0",
         7 if number != 39 => line += &format!(", instance {}", e[1]),
         5 | 6 | 8 | 9 if number != 39 => line += &format!(", byte {}", e[0]),
+        10 if number > 48 => line += &format!(", record {}", e[0]),
         2 => {
             line.extend(place(number, f[0]).iter().zip(&e).map(item));
             let sort = match (number, f[0]) {
