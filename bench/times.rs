@@ -1115,9 +1115,10 @@ fn main() {
          table, they are looked through one by one. The index of 128 Blases alone, by a call with no records, takes {index}.\n\n\
          | What | ours | scan | sorted | map | copy | scan to ours | sorted to ours | map to ours | to a copy |\n\
          |---|---|---|---|---|---|---|---|---|---|\n{reading_back}\n\
-         What keeps the last two rows slower than the scan: ours looks each record's Blas up twice, to judge all before anything \
-         is written, and to write; the Rust keeps what it found, in a vector of its own. And Blases of one remainder are a chain, \
-         in which each step waits for the one before.\n\n\
+         What keeps a row below 1: ours looks each record's Blas up twice, to judge all before anything is written, and to write, where \
+         the Rust keeps what it found, in a vector of its own; and ours makes an instance of each record, its twelve numbers through \
+         `f32`, where the Rust copies their bytes. Blases of one remainder are a chain, in which each step waits for the one \
+         before.\n\n\
          A sheet written anew, against reading it alone and a plain memory copy of its 56,415 bytes, which is what a caller has who cannot \
          tell whether two sheets agree. The ratios are ours / reading and ours / copy; it judges the sheet as reading does, and then writes it \
          section by section.\n\n\
