@@ -913,33 +913,130 @@ fn back_rows() -> (Vec<Back>, f64) {
     (rows, index)
 }
 
+/// What lasts from one submission to the next: 16 Blases, and 4 Tlases with their lists.
+struct Lasting {
+    blases: Vec<u8>,
+    tlases: Vec<u8>,
+    counts: [u16; 4],
+    dependencies: Vec<u16>,
+    indices: zakvind::CommandIndices,
+}
+
+impl Lasting {
+    fn new() -> Lasting {
+        let mut raw = Raw { alignment: 1, ..Raw::default() };
+        for i in 0..16 {
+            raw.push(BLASES, &[0, 0, 0, 0, 0, i, 1]);
+        }
+        for _ in 0..4 {
+            raw.push(TLASES, &[0, 0, 0, 512, 1]);
+        }
+        Lasting {
+            blases: raw.table(BLASES),
+            tlases: raw.table(TLASES),
+            counts: [0; 4],
+            dependencies: vec![0; 512 * 4],
+            indices: zakvind::CommandIndices { active_submission_index: 0, next_acceleration_structure_build_command_index: 5 },
+        }
+    }
+
+    /// The number that it is answered by.
+    fn submit(&mut self, actions: &[u32], lists: &[u16]) -> u64 {
+        let lent = zakvind::Lent {
+            blases: &mut self.blases,
+            tlases: &mut self.tlases,
+            dependency_counts: &mut self.counts,
+            dependencies: &mut self.dependencies,
+        };
+        zakvind::raw::submit(&mut self.indices, lent, black_box(actions), black_box(lists)).number
+    }
+
+    /// By hand, what a use of Tlas t over these Blases is judged by.
+    fn usable(&self, t: usize, list: &[u16]) -> bool {
+        let number = |table: &[u8], at: usize| number_at(table, at, 8);
+        let own = number(&self.tlases, t * SIZES[TLASES] + 14);
+        own != 0
+            && list.iter().all(|&b| {
+                let at = usize::from(b) * SIZES[BLASES];
+                let n = number(&self.blases, at + 20);
+                n != 0 && n <= own && self.blases[at + 3] == 0
+            })
+    }
+}
+
+/// Nanoseconds of a submission whose Builds are marks that name each Tlas's Blases, of the same as Builds, and of what there is without
+/// that mark: the old marks, one submission up to each use, and lists that the caller keeps and compares before it.
+struct Marked {
+    name: String,
+    what: String,
+    ours: f64,
+    build: f64,
+    by_hand: f64,
+}
+
+fn mark_by_hand(lasting: &mut Lasting, acts: &[Act]) -> bool {
+    let mut lists: [&[u16]; 4] = [&[]; 4];
+    let mut waiting: Vec<u32> = Vec::new();
+    for a in acts {
+        match a {
+            Act::Build { blases, tlases } => {
+                blases.iter().for_each(|&b| waiting.extend([3, b.into(), 0, 0]));
+                for (t, list) in tlases {
+                    waiting.extend([4, (*t).into(), 0, 0]);
+                    lists[usize::from(*t)] = list;
+                }
+            }
+            Act::MarkBlas(b) => waiting.extend([3, *b, 0, 0]),
+            Act::MarkTlas(t) => {
+                waiting.extend([4, *t, 0, 0]);
+                lists[*t as usize] = &[];
+            }
+            Act::Use(t) => {
+                if lasting.submit(&waiting, &[]) != 0 || !lasting.usable((*t).into(), lists[usize::from(*t)]) {
+                    return false;
+                }
+                waiting.clear();
+                waiting.extend([2, (*t).into(), 0, 0]);
+            }
+        }
+    }
+    lasting.submit(&waiting, &[]) == 0
+}
+
+fn marked_row(n: usize) -> Marked {
+    let acts: Vec<Act> = (0..n).map(ten).collect();
+    let (builds, lists) = cells(&acts);
+    let mut marks = builds.clone();
+    marks.iter_mut().step_by(4).filter(|kind| **kind == 1).for_each(|kind| *kind = 5);
+    let [mut of_marks, mut of_builds, mut of_hand] = [(); 3].map(|()| Lasting::new());
+    assert_eq!((of_marks.submit(&marks, &lists), of_builds.submit(&builds, &lists)), (0, 0));
+    assert!(of_marks.blases == of_builds.blases && of_marks.tlases == of_builds.tlases && mark_by_hand(&mut of_hand, &acts));
+    let [ours, build, by_hand] = times(
+        [
+            &mut || {
+                black_box(of_marks.submit(&marks, &lists));
+            },
+            &mut || {
+                black_box(of_builds.submit(&builds, &lists));
+            },
+            &mut || {
+                black_box(mark_by_hand(&mut of_hand, black_box(&acts)));
+            },
+        ],
+        &mut || {},
+    );
+    Marked { name: format!("mark-{n}"), what: format!("submission of {n} actions"), ours, build, by_hand }
+}
+
 fn submit_row(n: usize) -> Row {
     let acts: Vec<Act> = (0..n).map(ten).collect();
-    let mut raw = Raw { alignment: 1, ..Raw::default() };
-    for i in 0..16 {
-        raw.push(BLASES, &[0, 0, 0, 0, 0, i, 1]);
-    }
-    for _ in 0..4 {
-        raw.push(TLASES, &[0, 0, 0, 512, 1]);
-    }
-    let (mut blases, mut tlases) = (raw.table(BLASES), raw.table(TLASES));
-    let input = paper::input(Version::One, 1, 5, [&[], &blases, &[], &tlases, &[], &[], &[], &[]]);
+    let mut lasting = Lasting::new();
+    let input = paper::input(Version::One, 1, 5, [&[], &lasting.blases, &[], &lasting.tlases, &[], &[], &[], &[]]);
     let world = World::new(&input);
     let submission = Submission::new(acts.iter().map(|a| drive::action(&world, a).unwrap()).collect());
-    let (mut counts, mut dependencies) = ([0u16; 4], vec![0u16; 512 * 4]);
     let (actions, lists) = cells(&acts);
-    let mut indices = zakvind::CommandIndices { active_submission_index: 0, next_acceleration_structure_build_command_index: 5 };
-    let mut ours = || {
-        let lent = zakvind::Lent {
-            blases: &mut blases,
-            tlases: &mut tlases,
-            dependency_counts: &mut counts,
-            dependencies: &mut dependencies,
-        };
-        zakvind::raw::submit(&mut indices, lent, black_box(&actions), black_box(&lists)).number
-    };
     assert!(submission.accepted(&world));
-    assert_eq!(ours(), 0);
+    assert_eq!(lasting.submit(&actions, &lists), 0);
     let [rust, made, ours] = times(
         [
             &mut || {
@@ -950,7 +1047,7 @@ fn submit_row(n: usize) -> Row {
                 black_box(black_box(&submission).accepted(black_box(&world)));
             },
             &mut || {
-                black_box(ours());
+                black_box(lasting.submit(&actions, &lists));
             },
         ],
         &mut || {},
@@ -1004,6 +1101,7 @@ fn main() {
         submit_row(1000),
         submit_row(100_000),
     ];
+    let marks = [10, 1000].map(marked_row);
     let (append, copy) = append_rows();
     let many = [40, 512].map(many_row);
     let (backs, index) = back_rows();
@@ -1034,6 +1132,11 @@ fn main() {
         }))
         .collect();
 
+    let mut marking = String::new();
+    for r in &marks {
+        let times = [r.ours, r.build, r.by_hand].map(micro).join(" | ");
+        let _ = writeln!(marking, "| {} | {times} | {:.2} | {:.2} |", r.what, r.build / r.ours, r.by_hand / r.ours);
+    }
     let mut at_once = String::new();
     for r in &many {
         let times = [r.ours, r.each, r.copy].map(micro).join(" | ");
@@ -1098,6 +1201,10 @@ fn main() {
          | What | Rust | Rust, made | Zakvind | ratio | made |\n|---|---|---|---|---|---|\n{rows}\n\
          What keeps the small build about three times as fast and no more: whatever the tables hold, ours judges eight of them, a call each, and \
          sets up its index of declared geometries, before the one entry.\n\n\
+         A submission whose Builds are marks that name each Tlas's Blases, against the same as Builds, and against what there is without \
+         that mark: the old marks, a submission up to each use, and in plain Rust the lists that the caller keeps and compares before it. The \
+         ratios are Builds / ours and by hand / ours.\n\n\
+         | What | marks | Builds | by hand | to Builds | to by hand |\n|---|---|---|---|---|---|\n{marking}\n\
          Instance bytes against a plain memory copy of the same 32,768 bytes ({copied}): the build of one package of 512 slots, all \
          its judging included, takes {a:.2} times as long; 512 instances appended by one call each {b:.2} times ({appended}).\n\n\
          What keeps these from twice a copy: a refused build leaves every byte, so all is judged before anything is written, and each slot is \
@@ -1194,6 +1301,10 @@ fn main() {
     }
     for r in &rows {
         println!("beforehand {} {:.2}", r.name, r.made / r.ours);
+    }
+    for r in &marks {
+        println!("mark {} {:.2}", r.name, r.build / r.ours);
+        println!("hand {} {:.2}", r.name, r.by_hand / r.ours);
     }
     for r in &anew {
         println!("write {} {:.2}", r.name, r.ours / r.read);

@@ -211,7 +211,7 @@ SECTIONS = (
         "action",
         64,
         (
-            Field("kind", 1, ("range", 1, 4), values=ACTIONS),
+            Field("kind", 1, ("range", 1, 4), values=ACTIONS, note="5, the mark that names Blases, is of library submissions only"),
             Field("operand", 2, used=(("not", "kind", 1),), id_by=("kind", {2: 4, 3: 2, 4: 4})),
         ),
     ),

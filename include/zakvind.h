@@ -103,7 +103,13 @@ static inline void *zakvind_none(void)
 #define ZAKVIND_LENT(type, pointer) ((pointer) ? (pointer) : ZAKVIND_NONE(type))
 
 /* Kinds of action. */
-enum { ZAKVIND_BUILD = 1, ZAKVIND_USE_TLAS = 2, ZAKVIND_MARK_BLAS = 3, ZAKVIND_MARK_TLAS = 4 };
+enum {
+    ZAKVIND_BUILD = 1,
+    ZAKVIND_USE_TLAS = 2,
+    ZAKVIND_MARK_BLAS = 3,
+    ZAKVIND_MARK_TLAS = 4, /* over no Blases: it draws whatever is built after it */
+    ZAKVIND_MARK_BUILT = 5 /* each Tlas over the Blases that it names, as a Build: refused by 44 once one is built after it; not in a sheet */
+};
 
 typedef struct {
     uint64_t active_submission_index;                          /* never moved */
@@ -346,8 +352,8 @@ zakvind_built zakvind_build_wide(
 
 /* Submits actions on the lent tables. A Tlas t lists the first dependency_counts[t] of its 512 cells of dependencies. An
  * action is four cells: kind, operand, Blas count, Tlas count. A Build's operand is the first cell of its lists: its Blases,
- * then for each Tlas its id, how many Blases it lists, and these. Another kind's operand is the id.
- * Refuses by 4 to 6, 21 and 39 to 44. */
+ * then for each Tlas its id, how many Blases it lists, and these. ZAKVIND_MARK_BUILT is written alike and does the same. Another
+ * kind's operand is the id, and its counts are not read. Refuses by 4 to 6, 21 and 39 to 44. */
 zakvind_submitted zakvind_submit(
     zakvind_command_indices *indices,
     uint8_t *blases, size_t blases_len,

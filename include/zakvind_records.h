@@ -490,7 +490,7 @@ static inline zakvind_slot zakvind_slot_default(void)
 
 /* Section 9, actions. */
 typedef struct {
-    uint8_t kind; /* 1 build, 2 use, 3 mark_blas, 4 mark_tlas */
+    uint8_t kind; /* 5, the mark that names Blases, is of library submissions only; 1 build, 2 use, 3 mark_blas, 4 mark_tlas */
     uint16_t operand;
 } zakvind_action;
 

@@ -43,8 +43,8 @@ class Lists:
         self.cells = [7]
         self.actions = []
 
-    def build(self, blases, packages=()):
-        self.actions += [1, len(self.cells), len(blases), len(packages)]
+    def build(self, blases, packages=(), kind=1):
+        self.actions += [kind, len(self.cells), len(blases), len(packages)]
         self.cells += blases
         for t, d in packages:
             self.cells += [t, len(d), *d]
@@ -63,17 +63,15 @@ class Lists:
     def mark_tlas(self, t):
         return self.act(4, t, 9, 9)
 
+    def mark_built(self, blases, packages=()):
+        return self.build(blases, packages, 5)
+
 
 def directed():
     # example 7, example 8
     yield Start(), Lists().build([0], [(0, [0])]).use(0).mark(0).use(0)
     yield Start(U64), Lists().build([0], [(0, [0])]).build([0])
     yield Start(0), Lists().use(1).mark(0)
-    # 42 in a Build: its step, its Blases and its earlier Tlases stand
-    yield Start(), Lists().build([0], [(0, [0, 2]), (1, [0, 1]), (0, [])])
-    # duplicates; a Tlas listed twice keeps the later list, and the first if the second meets 42
-    yield Start(), Lists().build([0, 0, 1], [(0, [0, 0, 1]), (0, [1])]).use(0)
-    yield Start(), Lists().build([0], [(0, [0]), (0, [1])]).mark(0).use(0)
     # 43, 42, 44, 21 of a use, in that order
     yield Start(), Lists().use(0)
     yield Start(dependencies=[[], [2, 0]]), Lists().use(1)
@@ -85,32 +83,29 @@ def directed():
     yield Start(dependencies=[[], [2, 0]]), Lists().mark_tlas(1).use(1)
     yield Start(blases=[blas(number=50), blas(), blas()], tlases=[tlas(number=60)], dependencies=[[0]]), Lists().mark(0).use(0)
     # kinds and operands as whole numbers
-    for kind in (0, 5, 257, 2**32 - 1):
+    for kind in (0, 6, 7, 255, 256, 257, 261, 2**16 + 5, 2**31 + 5, 2**32 - 1):
         yield Start(), Lists().mark(0).act(kind, 0, 0, 0).mark(1)
     for kind in (2, 3, 4):
         for operand in (2, 3, 65535, 65536, 65537, 2**32 - 1):
             yield Start(), Lists().mark(0).act(kind, operand, 0, 0)
     # parts of an action at the end
-    for n in (1, 2, 3):
-        yield Start(), Lists().mark(0).act(*[1] * n)
-    # lists past what is lent
-    for first, n, m in ((0, 2, 0), (2, 0, 0), (1, 0, 0), (1, 0, 1), (2**32 - 1, 0, 0), (0, 2**32 - 1, 0), (0, 0, 2**32 - 1), (0, 1, 1)):
-        yield Start(), Lists().mark(0).act(1, first, n, m)
-    # 5 over the whole action before 4, 4 before 6, 6 before 40, 40 before 41
-    yield Start(), Lists().build([0] * 65, [(9, [9])])
-    yield Start(), Lists().build([9] * 64, [(0, [0] * 513)])
-    yield Start(0, blases=[blas(state=3)]), Lists().build([0], [(9, [])])
-    yield Start(0, blases=[blas(state=3)]), Lists().build([0])
-    yield Start(5, blases=[blas(), blas(state=3), blas(state=3)]), Lists().mark(0).build([0, 1, 2])
-    # 64 and 65 Blases, 32 and 33 Tlases, 512 and 513 dependencies
-    for n in (64, 65):
-        yield Start(), Lists().build([0] * n)
-    for n in (32, 33):
-        yield Start(), Lists().build([0], [(0, [0])] * n)
-    for n in (512, 513):
-        yield Start(), Lists().build([0], [(1, [0] * n)])
-    yield Start(), Lists().build([0], [(0, [0]), (2, [])])
-    yield Start(), Lists().build([0], [(0, [0, 3])])
+    for kind in (1, 5):
+        for n in (1, 2, 3):
+            yield Start(), Lists().mark(0).act(*[kind] * n)
+    # of a Build, and of a mark that names each Tlas's Blases
+    for kind in (1, 5):
+        yield from listed(kind)
+    # example 7 with such a mark in place of the first Build; the old marks draw over a Blas rebuilt since, and the Tlas that one built, marked
+    # without lists, draws again
+    yield Start(), Lists().mark_built([0], [(0, [0])]).use(0).mark(0).use(0)
+    yield Start(), Lists().mark(0).mark_tlas(0).use(0).mark(0).use(0)
+    yield Start(), Lists().mark_built([0], [(0, [0])]).mark(0).mark_tlas(0).use(0)
+    # its Blases before its Tlases; Blases alone, Tlases alone, neither; after a Build of the same, and before one
+    yield Start(), Lists().mark_built([0, 1]).mark_built([], [(0, [0, 1, 2]), (1, [])]).use(0).use(1).mark_built([]).mark(2).use(1).use(0)
+    yield Start(), Lists().build([0], [(0, [0])]).mark_built([0], [(0, [0])]).use(0).mark_built([0]).use(0)
+    yield Start(), Lists().mark_built([0], [(0, [0])]).build([0], [(0, [0])]).use(0).build([0]).use(0)
+    yield Start(U64), Lists().mark_built([0], [(0, [0])]).mark_built([0])
+    yield Start(blases=[blas(state=2), blas(state=1), blas(number=3, destroyed=1)]), Lists().mark_built([0, 1], [(0, [0, 1]), (1, [2])]).use(0).use(1)
     # the start: 4, 5, 39, 4, 6, also without actions
     for actions in (Lists(), Lists().mark(0)):
         yield Start(blases=[blas()] * 129), actions
@@ -131,6 +126,33 @@ def directed():
         yield Start(counts=[0, 512], cells=[65535] * 512 + [2] * 512), actions
         yield Start(counts=[0, 512], cells=[0] * 1023 + [3]), actions
         yield Start(blases=[], tlases=[]), actions
+
+
+def listed(kind):
+    """Of a kind whose action names lists: what is refused, in its order, and what is left."""
+    # 42: its step, its Blases and its earlier Tlases stand; duplicates; a Tlas listed twice keeps the later list, and the first if the
+    # second meets 42
+    yield Start(), Lists().build([0], [(0, [0, 2]), (1, [0, 1]), (0, [])], kind)
+    yield Start(), Lists().build([0, 0, 1], [(0, [0, 0, 1]), (0, [1])], kind).use(0)
+    yield Start(), Lists().build([0], [(0, [0]), (0, [1])], kind).mark(0).use(0)
+    # lists past what is lent
+    for first, n, m in ((0, 2, 0), (2, 0, 0), (1, 0, 0), (1, 0, 1), (2**32 - 1, 0, 0), (0, 2**32 - 1, 0), (0, 0, 2**32 - 1), (0, 1, 1)):
+        yield Start(), Lists().mark(0).act(kind, first, n, m)
+    # 5 over the whole action before 4, 4 before 6, 6 before 40, 40 before 41
+    yield Start(), Lists().build([0] * 65, [(9, [9])], kind)
+    yield Start(), Lists().build([9] * 64, [(0, [0] * 513)], kind)
+    yield Start(0, blases=[blas(state=3)]), Lists().build([0], [(9, [])], kind)
+    yield Start(0, blases=[blas(state=3)]), Lists().build([0], (), kind)
+    yield Start(5, blases=[blas(), blas(state=3), blas(state=3)]), Lists().mark(0).build([0, 1, 2], (), kind)
+    # 64 and 65 Blases, 32 and 33 Tlases, 512 and 513 dependencies
+    for n in (64, 65):
+        yield Start(), Lists().build([0] * n, (), kind)
+    for n in (32, 33):
+        yield Start(), Lists().build([0], [(0, [0])] * n, kind)
+    for n in (512, 513):
+        yield Start(), Lists().build([0], [(1, [0] * n)], kind)
+    yield Start(), Lists().build([0], [(0, [0]), (2, [])], kind)
+    yield Start(), Lists().build([0], [(0, [0, 3])], kind)
 
 
 def random_case(choose):
@@ -154,6 +176,7 @@ def random_case(choose):
             lists.build(
                 [choose.randrange(nb) for _ in range(choose.randint(0, 3))],
                 [(choose.randrange(nt), [choose.randrange(nb) for _ in range(choose.randint(0, 3))]) for _ in range(choose.randint(0, 2))],
+                choose.choice((1, 5)),
             )
         elif what < 0.75:
             lists.use(t)
@@ -162,7 +185,7 @@ def random_case(choose):
         elif what < 0.95:
             lists.mark_tlas(t)
         else:
-            lists.act(*(choose.choice((0, 1, 2, 3, 5, 9)) for _ in range(4)))
+            lists.act(*(choose.choice((0, 1, 2, 3, 5, 6, 9)) for _ in range(4)))
     return start, lists
 
 
@@ -202,6 +225,14 @@ def cut(out, start, lists):
         assert (answer, state) == (whole, left), (whole, answer)
 
 
+def as_builds(out, choose):
+    """Random lists, and the same with each 5 as a Build: the same answer, and the same is left."""
+    for _ in range(40):
+        start, lists = random_case(choose)
+        cells = [1 if i % 4 == 0 and c == 5 else c for i, c in enumerate(lists.actions)]
+        assert out.send(start, lists.actions, lists.cells) == out.send(start, cells, lists.cells), lists.actions
+
+
 def main():
     folder = pathlib.Path(__file__).resolve().parent.parent / "crates/cases_submit"
     choose = random.Random(11)
@@ -214,12 +245,16 @@ def main():
             _, state = out.send(start, lists.actions, lists.cells)
             # what a submission leaves, refused or not, is a start again
             out.send(start, Lists().use(0).mark(0).actions, [], state)
+        # of all five kinds, all of it accepted; and with a use at its end that a rebuilt Blas refuses
         long = Lists()
         for i in range(6):
             long.build([i % 3], [(i % 2, [i % 3, 2])]).use(i % 2).mark(2).mark_tlas((i + 1) % 2).use((i + 1) % 2)
+            long.mark_built([i % 3, 1], [(i % 2, [i % 3]), ((i + 1) % 2, [1])]).use(i % 2).use((i + 1) % 2)
         cut(out, Start(), long)
+        cut(out, Start(), long.mark(1).use(0).use(1))
         for _ in range(6):
             cut(out, *random_case(choose))
+        as_builds(out, choose)
     (folder / "stdout").write_text("".join(line + "\n" for line in out.lines))
     print(f"{len(out.lines)} submissions; " + ", ".join(f"{n} of {k}" for k, n in sorted(out.seen.items())))
 

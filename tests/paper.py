@@ -1,5 +1,5 @@
-"""A reading of the paper's "Building, in order" and "Submission" over lent tables, of the request for 37's place, and of request 6's "above, the
-same checks are read over whole numbers", written apart from the definitions."""
+"""A reading of the paper's "Building, in order" and "Submission" over lent tables, of the request for 37's place, of request 6's "above, the
+same checks are read over whole numbers", and of request 8's mark, written apart from the definitions."""
 import struct
 
 from reading import LIMITS, NONE, record_fits, sizes
@@ -295,7 +295,8 @@ def submit(counter, blases, tlases, counts, cells, actions, lists):
             return "build", [operand], []
         if kind == 4:
             return "build", [], [(operand, [])]
-        if kind != 1 or operand + n > len(lists):
+        # "a mark that names each Tlas's Blases: kind 5 ... Every rule takes it for a Build of those lists"
+        if kind not in (1, 5) or operand + n > len(lists):
             raise No(5)
         own, at, packages = lists[operand : operand + n], operand + n, []
         for _ in range(m):

@@ -19,7 +19,7 @@ PLACES = {
 # what 37's place is, by its first figure
 TOTALS = {1: "entry", 2: "package"}
 SORTS = {1: ("entry", "geometry", "buffer"), 2: ("entry", "Blas"), 3: ("package", "Tlas")}
-KINDS = {1: "recorded build", 2: "use of a Tlas", 3: "mark of a Blas", 4: "mark of a Tlas"}
+KINDS = {1: "recorded build", 2: "use of a Tlas", 3: "mark of a Blas", 4: "mark of a Tlas", 5: "mark as built"}
 
 
 def line(word, *numbers):
@@ -42,7 +42,7 @@ def explanation(refusal):
         position, kind = place
         if number == 21:
             names = ["Blas"]
-        if number == 42 and kind != 1:
+        if number == 42 and kind not in (1, 5):
             names = ["Tlas", "Blas"] if kind == 2 else ["Blas or Tlas", "Tlas or Blas"]
         items = [(KINDS[kind] + " at action" if kind in KINDS else "action", position), *zip(names, figures)]
     elif number in (21, 22):

@@ -1,8 +1,8 @@
 /* The header against the library: records packed and unpacked, the room of a build, scratch that reaches 2^64 - 1, builds of either width,
- * empty tables, a sheet written anew, one of each version converted to the other, opened groups, words, a refused append, many instances in
- * one call, instances read back, how much stack each call uses, with the largest tables, sheet and groups, and how often a build
- * divides. Every answer is held against what it must be. OTHER_LIBRARY: one that stands in for ours may use more stack and
- * divide. */
+ * empty tables, marks that name Blases, a sheet written anew, one of each version converted to the other, opened groups, words, a refused
+ * append, many instances in one call, instances read back, how much stack each call uses, with the largest tables, sheet and groups, and
+ * how often a build divides. Every answer is held against what it must be. OTHER_LIBRARY: one that stands in for ours may use more stack
+ * and divide. */
 #define _GNU_SOURCE
 #include <zakvind.h>
 
@@ -523,6 +523,89 @@ static void nothing(void)
     r = zakvind_read_instances(record, 1, none, 0, none, 0);
     must(r.number == ZAKVIND_UNEVEN_LENGTH && r.e0 == 0 && r.written == 0, "a byte of a record");
     must(zakvind_report(none, 0, none, 0).number == ZAKVIND_OUTPUT_TOO_SHORT, "a text without room");
+}
+
+/* ---- a mark that names each Tlas's Blases */
+
+enum { MARKED_BLASES = 2, MARKED_TLASES = 2 };
+typedef struct {
+    uint8_t blases[MARKED_BLASES * ZAKVIND_BLAS_BYTES], tlases[MARKED_TLASES * ZAKVIND_TLAS_BYTES];
+    uint16_t counts[MARKED_TLASES], dependencies[MARKED_TLASES * ZAKVIND_TLAS_ROOM];
+    zakvind_command_indices indices;
+} marked;
+
+/* Blas 1 in a state of its own, neither built; every cell of a list is 7 */
+static marked marked_start(uint64_t counter, uint8_t state_of_1)
+{
+    marked m = {.indices = {3, counter}};
+    zakvind_blas b = zakvind_blas_default();
+    const zakvind_tlas t = zakvind_tlas_default();
+    zakvind_pack_blas(m.blases, &b);
+    b.compacted_state = state_of_1;
+    zakvind_pack_blas(m.blases + ZAKVIND_BLAS_BYTES, &b);
+    for (int i = 0; i < MARKED_TLASES; i++)
+        zakvind_pack_tlas(m.tlases + i * ZAKVIND_TLAS_BYTES, &t);
+    for (int i = 0; i < MARKED_TLASES * ZAKVIND_TLAS_ROOM; i++)
+        m.dependencies[i] = 7;
+    return m;
+}
+
+static zakvind_submitted mark(marked *m, const uint32_t *cells, size_t n, const uint16_t *its_lists, size_t its_lists_len)
+{
+    return zakvind_submit(&m->indices, m->blases, sizeof m->blases, m->tlases, sizeof m->tlases, m->counts, MARKED_TLASES, m->dependencies,
+                          MARKED_TLASES * ZAKVIND_TLAS_ROOM, cells, n, its_lists, its_lists_len);
+}
+
+/* of the mark and of a Build of the same lists: the same answer, and the same is left */
+static void marks_as_build(uint64_t counter, uint8_t state_of_1, uint32_t blas_count, uint32_t tlas_count, size_t lent, uint64_t number)
+{
+    static const uint16_t its_lists[] = {0, 1, 0, 2, 0, 1, 1, 1, 0, 2, 0, 9};
+    const uint32_t of_mark[] = {ZAKVIND_MARK_BUILT, 0, blas_count, tlas_count}, of_build[] = {ZAKVIND_BUILD, 0, blas_count, tlas_count};
+    marked m = marked_start(counter, state_of_1), b = m;
+    const zakvind_submitted said = mark(&m, of_mark, 4, its_lists, lent), as_build = mark(&b, of_build, 4, its_lists, lent);
+    must(said.number == number, "a mark's number");
+    must(memcmp(&said, &as_build, sizeof said) == 0 && memcmp(&m, &b, sizeof m) == 0, "a mark is a Build of its lists");
+}
+
+static void marks_built(void)
+{
+    static const uint16_t its_lists[] = {0, 0, 1, 0};
+    static const uint32_t first[] = {ZAKVIND_MARK_BUILT, 0, 1, 1, ZAKVIND_USE_TLAS, 0, 0, 0};
+    static const uint32_t then[] = {ZAKVIND_MARK_BLAS, 0, 0, 0, ZAKVIND_USE_TLAS, 0, 0, 0};
+    static const uint32_t old[] = {ZAKVIND_MARK_TLAS, 0, 0, 0, ZAKVIND_MARK_BLAS, 0, 0, 0, ZAKVIND_USE_TLAS, 0, 0, 0};
+    marked m = marked_start(5, 0);
+    zakvind_submitted s = mark(&m, first, 8, its_lists, 4);
+    must(s.number == 0 && m.indices.next_acceleration_structure_build_command_index == 6 && m.indices.active_submission_index == 3,
+         "a mark of a Tlas over a Blas");
+    s = mark(&m, then, 8, its_lists, 0);
+    must(s.number == ZAKVIND_BLAS_NEWER_THAN_TLAS && s.action == 1 && s.f0 == 0 && s.f1 == 0, "a marked Tlas over a Blas marked after it");
+    must(m.indices.next_acceleration_structure_build_command_index == 7, "the counter after it");
+    s = mark(&m, old, 12, its_lists, 0);
+    must(s.number == 0 && m.counts[0] == 0, "the old mark over a Blas marked after it");
+    marks_as_build(5, 2, 2, 0, 12, 0);
+    marks_as_build(5, 2, 2, 2, 12, 0);
+    marks_as_build(UINT64_MAX, 1, 2, 2, 12, 0);
+    marks_as_build(5, 0, 0, 0, 0, 0);
+    marks_as_build(5, 0, 0, 1, 12, ZAKVIND_USED_UNBUILT_BLAS);
+    marks_as_build(5, 0, 1, 2, 12, ZAKVIND_INVALID_RESOURCE);
+    marks_as_build(5, 0, 2, 2, 8, ZAKVIND_INVALID_VALUE);
+    marks_as_build(5, 0, 0, UINT32_MAX, 12, ZAKVIND_INVALID_VALUE);
+    marks_as_build(5, 0, UINT32_MAX, 0, 12, ZAKVIND_INVALID_VALUE);
+    marks_as_build(0, 3, 12, 0, 12, ZAKVIND_INVALID_RESOURCE);
+    marks_as_build(0, 3, 2, 2, 12, ZAKVIND_COUNTER_EXHAUSTED);
+    marks_as_build(5, 3, 2, 2, 12, ZAKVIND_BUILD_OF_COMPACTED_BLAS);
+    for (uint32_t kind = 6; kind != 0; kind <<= 1) {
+        const uint32_t cells[] = {kind, 0, 0, 0};
+        m = marked_start(5, 0);
+        const marked before = m;
+        s = mark(&m, cells, 4, its_lists, 4);
+        must(s.number == ZAKVIND_INVALID_VALUE && memcmp(&m, &before, sizeof m) == 0, "a kind above it");
+    }
+    uint8_t said[ZAKVIND_LONGEST_WORDS];
+    static const char expected[] = "refused 42: Blas without number, mark as built at action 2, Blas 8, Tlas 9\n";
+    const zakvind_reported r =
+        zakvind_words(ZAKVIND_CALL_SUBMISSION, ZAKVIND_USED_UNBUILT_BLAS, 2, ZAKVIND_MARK_BUILT, 8, 9, 0, said, sizeof said);
+    must(r.number == 0 && r.written == sizeof expected - 1 && memcmp(said, expected, sizeof expected - 1) == 0, "the words of a mark's 42");
 }
 
 /* ---- a sheet written anew */
@@ -1310,9 +1393,10 @@ static void submits(void)
     static uint16_t counts[ZAKVIND_MOST_TLASES], dependencies[ZAKVIND_MOST_TLASES * ZAKVIND_TLAS_ROOM];
     zakvind_command_indices indices = {0, 5};
     const uint32_t cells[] = {ZAKVIND_BUILD, 0, ZAKVIND_MOST_ENTRIES, ZAKVIND_MOST_PACKAGES, ZAKVIND_USE_TLAS, 0, 0, 0,
-                              ZAKVIND_MARK_BLAS, 0, 0, 0, ZAKVIND_MARK_TLAS, 0, 0, 0};
+                              ZAKVIND_MARK_BLAS, 0, 0, 0, ZAKVIND_MARK_TLAS, 0, 0, 0,
+                              ZAKVIND_MARK_BUILT, 0, ZAKVIND_MOST_ENTRIES, ZAKVIND_MOST_PACKAGES};
     const zakvind_submitted s = zakvind_submit(&indices, blases, sizeof blases, tlases, sizeof tlases, counts, ZAKVIND_MOST_TLASES,
-                                               dependencies, sizeof dependencies / sizeof *dependencies, cells, 16, lists, room.lists);
+                                               dependencies, sizeof dependencies / sizeof *dependencies, cells, 20, lists, room.lists);
     must(s.number == 0, "the largest Build");
 }
 
@@ -1509,6 +1593,7 @@ int main(void)
     as_narrow();
     far_builds();
     nothing();
+    marks_built();
     written(sheet, sizeof sheet);
     written(wide_sheet, sizeof wide_sheet);
     both_ways();
@@ -1523,7 +1608,7 @@ int main(void)
     words();
     stacks();
     divisions();
-    puts("C: records, room, scratch, wide builds, empty tables, written and converted sheets, opened groups, appends, instances "
+    puts("C: records, room, scratch, wide builds, empty tables, marks, written and converted sheets, opened groups, appends, instances "
          "read back and stack are as is said");
     return 0;
 }

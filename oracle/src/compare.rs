@@ -34,9 +34,11 @@ const CAN_GIVE: [(&str, &[u64]); 10] = [
     ("back", &[0, 39, 48, 49, 50]),
 ];
 
-/// Of these calls counted apart: sheets of version 2, and builds of version 2 with an offset from 2^32 on, of which the Rust says nothing.
-const APART: [(&str, &[u64]); 2] = [
+/// Of these calls counted apart: sheets of version 2; marks that name each Tlas's Blases, each that is reached; and builds of version 2 with
+/// an offset from 2^32 on, of which the Rust says nothing.
+const APART: [(&str, &[u64]); 3] = [
     ("sheet_2", &[0, 2, 3, 4, 5]),
+    ("mark_5", &[0, 4, 5, 6, 40, 41, 42]),
     (
         "above",
         &[

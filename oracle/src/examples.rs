@@ -322,6 +322,11 @@ pub fn submissions() -> Vec<(&'static str, Case, Answers)> {
             start(5, 1, vec![(vec![1, 0, 1, 1, 2, 0, 0, 0], vec![0, 0, 1, 0]), (vec![3, 0, 0, 0, 2, 0, 0, 0], vec![])]),
             vec![([0; 4], 6), ([44, 1, 0, 0], 7)],
         ),
+        (
+            "7 with a mark of B0 and of T0 over B0 in place of the first Build",
+            start(5, 1, vec![(vec![5, 0, 1, 1, 2, 0, 0, 0], vec![0, 0, 1, 0]), (vec![3, 0, 0, 0, 2, 0, 0, 0], vec![])]),
+            vec![([0; 4], 6), ([44, 1, 0, 0], 7)],
+        ),
         ("8", start(TOP, 0, vec![build.clone(), build.clone()]), vec![([0; 4], 0), ([40, 0, 0, 0], 0)]),
         ("8 in one", start(TOP, 0, vec![(vec![1, 0, 1, 0, 1, 0, 1, 0], vec![0])]), vec![([40, 1, 0, 0], 0)]),
     ]

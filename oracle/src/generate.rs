@@ -1045,9 +1045,15 @@ fn submission(r: &mut Rng) -> Case {
         1 => tlas_table.push(1),
         _ => {}
     }
-    let pieces = (0..r.pick(&[1, 1, 2, 3, 4])).map(|_| piece(r, blases, tlases)).collect();
+    let mut pieces: Vec<_> = (0..r.pick(&[1, 1, 2, 3, 4])).map(|_| piece(r, blases, tlases)).collect();
     let any = r.u64();
     let indices = [r.pick(&[0, 7, any]), counter];
+    // last, so that the rest stays as it was: of the Builds some as marks that name each Tlas's Blases
+    for kind in pieces.iter_mut().flat_map(|(actions, _)| actions.iter_mut().step_by(4)) {
+        if *kind == 1 && r.chance(40) {
+            *kind = 5;
+        }
+    }
     Case::Submit { indices, blases: blas_table, tlases: tlas_table, dependency_counts, dependencies, pieces }
 }
 

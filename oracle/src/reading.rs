@@ -11,7 +11,7 @@ pub struct Reading {
 
 /// How many faults there are, from 1 on; those of opened groups follow, then those of many appended instances, then those of converted
 /// sheets.
-pub const FAULTS: u32 = 82;
+pub const FAULTS: u32 = 87;
 
 const TOP: u64 = u64::MAX;
 const TOP32: u64 = u32::MAX as u64;
@@ -87,7 +87,7 @@ impl Reading {
             (6, geometry::FIRST_PRESENT) => most(1) || seen.read[geometry::INDEX_BUFFER] == NONE && !self.is(6),
             (6, geometry::TRANSFORM_PRESENT) => most(1) || seen.read[geometry::TRANSFORM_BUFFER] == NONE,
             (8, slot::PRESENT) => most(1),
-            (9, 0) => (1..=4).contains(&value),
+            (9, 0) => (1..=4).contains(&value) || self.is(85) && value == 5,
             _ => true,
         }
     }
@@ -816,9 +816,20 @@ impl Reading {
         };
         let kind = if self.is(55) { kind & 255 } else { kind };
         let operand = if self.is(56) && kind != 1 { operand & 65535 } else { operand };
+        let kind = if self.is(86) && kind == 6 { 5 } else { kind };
         match kind {
-            1 => match self.lists(lists, operand.into(), blases.into(), tlases.into()) {
-                Some((ids, packages)) => self.build_action(s, &ids, &packages),
+            // "a mark that names each Tlas's Blases: kind 5": "a Build of those lists"
+            5 if self.is(87) => Err((5, [0; 2])),
+            1 | 5 => match self.lists(lists, operand.into(), blases.into(), tlases.into()) {
+                Some((mut ids, mut packages)) => {
+                    if kind == 5 && self.is(83) {
+                        packages.iter_mut().for_each(|p| p.1.clear());
+                    }
+                    if kind == 5 && self.is(84) {
+                        ids.clear();
+                    }
+                    self.build_action(s, &ids, &packages)
+                }
                 None => Err((5, [0; 2])),
             },
             2 => self.use_tlas(s, operand.into()),

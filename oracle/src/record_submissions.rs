@@ -168,36 +168,40 @@ fn small() -> Submission {
     tables.with_tables(&raw).with_lists(&[&[], &[1]])
 }
 
-/// A Build's four cells; its lists are added.
-fn build(lists: &mut Vec<u16>, blases: &[u16], tlases: &[(u16, &[u16])]) -> [u32; 4] {
+/// The kinds of a Build, and of a mark that names each Tlas's Blases.
+const LISTED: [u32; 2] = [1, 5];
+
+/// The four cells of an action of one of these kinds; its lists are added.
+fn listing(kind: u32, lists: &mut Vec<u16>, blases: &[u16], tlases: &[(u16, &[u16])]) -> [u32; 4] {
     let at = lists.len();
     lists.extend_from_slice(blases);
     for (tlas, list) in tlases {
         lists.extend([*tlas, list.len() as u16]);
         lists.extend_from_slice(list);
     }
-    [1, at as u32, blases.len() as u32, tlases.len() as u32]
+    [kind, at as u32, blases.len() as u32, tlases.len() as u32]
 }
 
-/// One Build alone.
-fn building(blases: &[u16], tlases: &[(u16, &[u16])]) -> Vec<Piece> {
+/// One such action alone.
+fn alone(kind: u32, blases: &[u16], tlases: &[(u16, &[u16])]) -> Vec<Piece> {
     let mut lists = Vec::new();
-    vec![(build(&mut lists, blases, tlases).to_vec(), lists)]
+    vec![(listing(kind, &mut lists, blases, tlases).to_vec(), lists)]
 }
 
-const KINDS: usize = 8;
+const KINDS: usize = 9;
 
 /// An action of each kind on `small`, its lists added. What a use or a mark doesn't read is not 0.
 fn action(kind: usize, lists: &mut Vec<u16>) -> [u32; 4] {
     match kind {
-        0 => build(lists, &[0], &[(0, &[0])]),
-        1 => build(lists, &[], &[(1, &[0, 1])]),
+        0 => listing(1, lists, &[0], &[(0, &[0])]),
+        1 => listing(1, lists, &[], &[(1, &[0, 1])]),
         2 => [2, 0, 9, 9],
         3 => [2, 1, 0, 0],
         4 => [3, 0, 1, 1],
         5 => [3, 1, 0, 0],
         6 => [4, 0, u32::MAX, 2],
-        _ => [4, 1, 0, 0],
+        7 => [4, 1, 0, 0],
+        _ => listing(5, lists, &[1], &[(0, &[1]), (1, &[0])]),
     }
 }
 
@@ -209,8 +213,8 @@ fn piece(kinds: &[usize]) -> Piece {
     (actions, lists)
 }
 
-/// Every list of up to three actions, of up to two at the counters 0, 1 and 2^64 - 1; and one list of six, cut at every
-/// choice of places.
+/// Every list of up to three actions, of up to two at the counters 0, 1 and 2^64 - 1; and lists of six, one of all kinds, cut at
+/// every choice of places.
 fn actions(list: &mut List) {
     for (counter, most) in [(5, 3), (1, 2), (TOP, 2), (0, 2)] {
         for n in 0..=most {
@@ -220,7 +224,7 @@ fn actions(list: &mut List) {
             }
         }
     }
-    for (counter, six) in [(5, [0, 2, 5, 1, 4, 3]), (TOP - 1, [0, 7, 3, 2, 6, 2])] {
+    for (counter, six) in [(5, [0, 2, 5, 1, 4, 3]), (TOP - 1, [0, 7, 3, 2, 6, 2]), (5, [0, 8, 2, 6, 4, 2])] {
         for cuts in 0..32 {
             let mut pieces = vec![vec![]];
             for (i, &kind) in six.iter().enumerate() {
@@ -237,7 +241,7 @@ fn actions(list: &mut List) {
 /// Each field of the tables, each count and listed cell, each cell of actions and lists, set to values about which it may
 /// turn; tables, room, actions and lists cut or longer by one.
 fn place_by_place(list: &mut List, rust: &mut RustSide) {
-    let one_of_each = vec![piece(&[3, 0, 2, 1, 3, 4, 7, 6])];
+    let one_of_each = vec![piece(&[3, 0, 2, 1, 3, 4, 7, 6, 8])];
     let base = small().with_lists(&[&[1], &[1, 2]]).with_pieces(one_of_each);
     list.take(base.clone());
     let raw = base.raw();
@@ -325,23 +329,25 @@ fn limits(list: &mut List) {
         small().with_tables(&raw).with_lists(&vec![&[][..]; tlases as usize])
     };
     for (blases, tlases) in [(128, 32), (129, 32), (128, 33), (0, 0), (1, 0), (0, 1)] {
-        list.take(tables(blases, tlases).with_pieces(building(&[], &[])));
+        list.take(tables(blases, tlases).with_pieces(alone(1, &[], &[])));
     }
     let full = tables(128, 32);
     let ids = |n: usize| (0..n).map(|i| (i * 5 % 128) as u16).collect::<Vec<u16>>();
-    for n in [64, 65] {
-        list.take(full.with_pieces(building(&ids(n), &[])));
-    }
-    for n in [32, 33] {
-        let tlases: Vec<(u16, &[u16])> = (0..n).map(|t| (t % 32, &[3, 4][..])).collect();
-        list.take(full.with_pieces(building(&[7], &tlases)));
-    }
-    for n in [511, 512, 513] {
-        list.take(full.with_pieces(building(&[7], &[(2, &[9]), (31, &ids(n))])));
+    for kind in LISTED {
+        for n in [64, 65] {
+            list.take(full.with_pieces(alone(kind, &ids(n), &[])));
+        }
+        for n in [32, 33] {
+            let tlases: Vec<(u16, &[u16])> = (0..n).map(|t| (t % 32, &[3, 4][..])).collect();
+            list.take(full.with_pieces(alone(kind, &[7], &tlases)));
+        }
+        for n in [511, 512, 513] {
+            list.take(full.with_pieces(alone(kind, &[7], &[(2, &[9]), (31, &ids(n))])));
+        }
     }
     let all: Vec<u16> = ids(512);
     let tlases: Vec<(u16, &[u16])> = (0..32).map(|t| (t, &all[..])).collect();
-    let mut fullest = building(&ids(64), &tlases);
+    let mut fullest = alone(1, &ids(64), &tlases);
     fullest[0].0.extend([2, 31, 0, 0, 3, 127, 0, 0, 2, 0, 0, 0]);
     list.take(full.with_pieces(fullest));
 }

@@ -38,6 +38,9 @@ pub struct RustSide {
 
 // ---- actions ----------------------------------------------------------------------------------------------------------
 
+/// The kind of a mark that names each Tlas's Blases.
+const MARK_BUILT: u32 = 5;
+
 /// An action, or what the paper refuses it for before the Rust sees it.
 enum Decoded {
     Act(Act),
@@ -67,7 +70,8 @@ fn lists_at(lists: &[u16], at: usize, blases: usize, tlases: usize) -> Option<(&
 fn decode(cells: &[u32], lists: &[u16], blas_count: usize, tlas_count: usize) -> Decoded {
     let &[kind, operand, blases, tlases] = cells else { return Decoded::Refused(5) };
     match kind {
-        1 => {
+        // the Rust has no mark that names Blases: "Every rule takes it for a Build of those lists", and as that it is handed over
+        1 | MARK_BUILT => {
             let Some((ids, packages)) = lists_at(lists, operand as usize, blases as usize, tlases as usize) else {
                 return Decoded::Refused(5);
             };
@@ -583,7 +587,15 @@ impl Side for RustSide {
         indices[1] = w.counter();
         self.tally.part("actions handed to the Rust", Mark::Rust, handed.len());
         self.tally.part("records after a submission", Mark::Rust, blases + tlases);
+        let is_mark = |cells: &&[u32]| cells.len() == 4 && cells[0] == MARK_BUILT;
+        let passed = refusal.map_or(actions.len() / 4, |r| r.1);
+        for _ in actions.chunks(4).take(passed).filter(is_mark) {
+            self.tally.answer("mark_5", 0, Mark::Rust);
+        }
         let (number, action, f, mark) = refusal.unwrap_or((0, 0, [0, 0], Mark::Rust));
+        if number != 0 && actions.chunks(4).nth(action).is_some_and(|cells| is_mark(&cells)) {
+            self.tally.answer("mark_5", number, mark);
+        }
         self.tally.answer("submit", number, mark);
         [number, action as u64, f[0], f[1]]
     }

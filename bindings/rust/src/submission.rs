@@ -29,13 +29,14 @@ const BUILD: u32 = 1;
 const USE_TLAS: u32 = 2;
 const MARK_BLAS: u32 = 3;
 const MARK_TLAS: u32 = 4;
+const MARK_BUILT: u32 = 5;
 
 /// Actions with their lists, in the library's cells.
 #[derive(Clone, Debug, Default, PartialEq, Eq)]
 pub struct Actions {
     /// four cells each: kind, operand, Blas count, Tlas count
     pub actions: Vec<u32>,
-    /// what Builds list
+    /// what Builds and marks as built list
     pub lists: Vec<u16>,
 }
 
@@ -53,13 +54,23 @@ impl Actions {
     /// A Build of these Blases, then of each Tlas over the Blases beside it. What has no room in its cell is said, and then nothing
     /// is added.
     pub fn build(&mut self, blases: &[BlasId], tlases: &[(TlasId, &[BlasId])]) -> Result<(), Misfit> {
+        self.named(BUILD, blases, tlases)
+    }
+
+    /// A mark of what another tool built: these Blases, then each Tlas over the Blases beside it. It is judged, and a later use of such a
+    /// Tlas too, as if it were a [`build`](Actions::build) of the same. What has no room in its cell is said, and then nothing is added.
+    pub fn mark_built(&mut self, blases: &[BlasId], tlases: &[(TlasId, &[BlasId])]) -> Result<(), Misfit> {
+        self.named(MARK_BUILT, blases, tlases)
+    }
+
+    fn named(&mut self, kind: u32, blases: &[BlasId], tlases: &[(TlasId, &[BlasId])]) -> Result<(), Misfit> {
         let mut lists: Vec<u16> = blases.iter().map(|b| b.0).collect();
         for (n, (tlas, dependencies)) in tlases.iter().enumerate() {
             let at = At::Listed(self.count(), n);
             lists.extend([tlas.0, cell("blases", dependencies.len(), u16::MAX.into(), at)?]);
             lists.extend(dependencies.iter().map(|b| b.0));
         }
-        self.listed(blases.len(), tlases.len(), &lists)
+        self.listed(kind, blases.len(), tlases.len(), &lists)
     }
 
     /// What a build recorded, of the `lists` that it wrote.
@@ -71,15 +82,15 @@ impl Actions {
             value: wide(lists.len()),
             may: May::Range(wide(w.lists), u64::MAX),
         })?;
-        self.listed(w.blas_offsets, w.tlas_offsets, written)
+        self.listed(BUILD, w.blas_offsets, w.tlas_offsets, written)
     }
 
-    fn listed(&mut self, blases: usize, tlases: usize, lists: &[u16]) -> Result<(), Misfit> {
+    fn listed(&mut self, kind: u32, blases: usize, tlases: usize, lists: &[u16]) -> Result<(), Misfit> {
         let at = At::Action(self.count());
         let start = cell("cells of lists", self.lists.len(), u32::MAX.into(), at)?;
         let blases = cell("blases", blases, u32::MAX.into(), at)?;
         let tlases = cell("tlases", tlases, u32::MAX.into(), at)?;
-        self.actions.extend([BUILD, start, blases, tlases]);
+        self.actions.extend([kind, start, blases, tlases]);
         self.lists.extend_from_slice(lists);
         Ok(())
     }
@@ -94,7 +105,8 @@ impl Actions {
         self.actions.extend([MARK_BLAS, blas.0.into(), 0, 0]);
     }
 
-    /// A mark of a Tlas as built, over nothing.
+    /// A mark of a Tlas as built, over nothing: it is used whatever is built after it. One that names its Blases is
+    /// [`mark_built`](Actions::mark_built).
     pub fn mark_tlas(&mut self, tlas: TlasId) {
         self.actions.extend([MARK_TLAS, tlas.0.into(), 0, 0]);
     }
@@ -269,16 +281,16 @@ impl Judged<'_> {
             return (self.number == 5).then_some(Misfit::PartAction { at, cells: cells.len() });
         };
         match (self.number, kind) {
-            (5, BUILD) => self.past(at, operand, blases, tlases),
-            (5, _) => Some(Misfit::Value { at, field: "kind", value: kind.into(), may: May::Range(1, 4) }),
+            (5, BUILD | MARK_BUILT) => self.past(at, operand, blases, tlases),
+            (5, _) => Some(Misfit::Value { at, field: "kind", value: kind.into(), may: May::Range(BUILD.into(), MARK_BUILT.into()) }),
             (6, USE_TLAS | MARK_TLAS) => tables.outside(at, "its tlas", operand.into(), 4),
             (6, MARK_BLAS) => tables.outside(at, "its blas", operand.into(), 2),
-            (4 | 6, BUILD) => self.build(action, operand, blases, tlases),
+            (4 | 6, BUILD | MARK_BUILT) => self.build(action, operand, blases, tlases),
             _ => None,
         }
     }
 
-    /// A Build's own lists past what is lent.
+    /// A Build's own lists, or a mark's, past what is lent.
     fn past(&self, at: At, operand: u32, blases: u32, tlases: u32) -> Option<Misfit> {
         let most = wide(self.actions.lists.len());
         let mut past = u64::from(operand).saturating_add(blases.into());
@@ -292,7 +304,7 @@ impl Judged<'_> {
         (past > most).then_some(Misfit::PastLists { at, end: past, cells: most })
     }
 
-    /// A Build's lists: too long, or an id outside its table.
+    /// A Build's lists, or a mark's: too long, or an id outside its table.
     fn build(&self, action: usize, operand: u32, blases: u32, tlases: u32) -> Option<Misfit> {
         let (at, tables) = (At::Action(action), self.tables());
         if self.number == 4 {

@@ -360,7 +360,7 @@ fn refused_actions_are_named() {
         made(&|a| a.build(&[BlasId(0); 65], &[]).unwrap()),
         (4, 1, "action 1: count of blases is 65, may be 0 to 64".into())
     );
-    assert_eq!(made(&|a| a.actions.extend([7, 0, 0, 0])), (5, 1, "action 1: kind is 7, may be 1 to 4".into()));
+    assert_eq!(made(&|a| a.actions.extend([7, 0, 0, 0])), (5, 1, "action 1: kind is 7, may be 1 to 5".into()));
     assert_eq!(made(&|a| a.actions.extend([2, 0])), (5, 1, "action 1: an action has 4 cells, of which 2 are there".into()));
     assert_eq!(made(&|a| a.actions.extend([1, 0, 1, 0])), (5, 1, "action 1: its lists end before cell 1, 0 cells are lent".into()));
     // the start

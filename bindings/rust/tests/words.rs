@@ -7,7 +7,7 @@ use zakvind::raw;
 
 #[test]
 fn words_are_those_of_the_table() {
-    let values = [0, 1, 2, 3, 4, 9, 10, 65_535, u64::from(u32::MAX), u64::MAX];
+    let values = [0, 1, 2, 3, 4, 5, 6, 9, 10, 65_535, u64::from(u32::MAX), u64::MAX];
     let mut out = [0; 300];
     for call in (0..12).chain([u64::MAX]) {
         for number in (0..60).chain([u64::MAX]) {

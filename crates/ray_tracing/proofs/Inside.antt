@@ -153,7 +153,7 @@ or-else : (b : Bool) → (b || false) ≡ true → b ≡ true
 or-else true e = refl
 or-else false e = e
 
-field-fits :
+pub field-fits :
     (f : Field) (fs : List Field) (c : Seen) (s : List ℕ) (p : ℕ)
     → judgeFields c s p (f ∷ fs) ≡ reading.fine
     → (fits f c (leAt (f .width) s p) ≡ true) × (judgeFields (f .after c (leAt (f .width) s p)) s (p + f .width) fs ≡ reading.fine)
@@ -163,7 +163,7 @@ field-fits f fs c s p e =
     let y = or-fine (reading.judgedWhen (ltb (length s) (p + f .width)) (reading.refused 2 p)) _ (x .0) in
     (not-false (fits f c (leAt (f .width) s p)) (on-fine _ 5 p (y .1)), x .1)
 
-records-each :
+pub records-each :
     (c : Seen) (fs : List Field) (s : List ℕ) (n p : ℕ)
     → judgeRecords c fs s p n ≡ reading.fine
     → (k : ℕ)

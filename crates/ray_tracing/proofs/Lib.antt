@@ -33,6 +33,7 @@ pub mod ReadInstances
 pub mod ReadBack
 pub mod Inside
 pub mod Accepted
+pub mod MarkBuilt
 pub mod Builds
 pub mod Allowed
 pub mod Agree
@@ -54,5 +55,6 @@ pub mod Told
 pub mod Outcomes
 pub mod Callers
 pub mod DemandExamples
+pub mod MarkBuiltExamples
 pub mod Examples
 pub mod ReachedExamples

@@ -164,17 +164,19 @@ figureItems c =
     (cond (eqb (c .number) 33) ("stride" is c .first ∷ [])
     (cond (eqb (c .number) 36) ("count" is c .first ∷ "most" is c .second ∷ []) []))))))))
 
--- "1 the recorded build, 2 use of a Tlas, 3 mark of one Blas, 4 mark of one Tlas"; any other is not known
+-- "1 the recorded build, 2 use of a Tlas, 3 mark of one Blas, 4 mark of one Tlas", and "a mark that names each Tlas's Blases: kind 5"; any
+-- other is not known
 abbrev pub kindWords : ℕ → String
 kindWords kind =
     cond (eqb kind 1) "recorded build at action"
     (cond (eqb kind 2) "use of a Tlas at action"
-    (cond (eqb kind 3) "mark of a Blas at action" (cond (eqb kind 4) "mark of a Tlas at action" "action")))
+    (cond (eqb kind 3) "mark of a Blas at action"
+    (cond (eqb kind 4) "mark of a Tlas at action" (cond (eqb kind 5) "mark as built at action" "action"))))
 
 -- "42 gives Blas, Tlas in a Build and Tlas, Blas in a use"
 abbrev pub unbuiltItems : ℕ → ℕ → ℕ → List Item
 unbuiltItems kind first second =
-    cond (eqb kind 1) ("Blas" is first ∷ "Tlas" is second ∷ [])
+    cond (submission.namesLists kind) ("Blas" is first ∷ "Tlas" is second ∷ [])
     (cond (eqb kind 2) ("Tlas" is first ∷ "Blas" is second ∷ []) ("Blas or Tlas" is first ∷ "Tlas or Blas" is second ∷ []))
 
 -- the column "Returned" of a submission, the action apart

@@ -12,6 +12,7 @@ pub mod Plan
 pub mod AppendMany
 pub mod ReadInstances
 pub mod Submission
+pub mod MarkBuilt
 pub mod History
 pub mod Claim
 pub mod Meaning

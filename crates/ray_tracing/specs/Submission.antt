@@ -1,7 +1,7 @@
 -- "Submission", in the paper's order and words, over what is lent, as bytes and cells: an outcome tells each of them. Assumes nothing.
 use Prim.Native.Nat.{ℕ, zero, suc, _+_, _*_, _/_, _%_, _^_}
 use mathlib.Core.Path.{_≡_}
-use mathlib.Core.Bool.{Bool, true, false, _&&_, cond}
+use mathlib.Core.Bool.{Bool, true, false, _&&_, _||_, cond}
 use mathlib.Core.Option.{Option, none, some}
 use mathlib.Core.List.{List, [], _∷_}
 use lib.ListN.{length, take, drop, getD, set}
@@ -191,10 +191,14 @@ buildAt lists at blases tlases =
       | false ↦ malformed
     ]
 
--- "Actions: kind, operand: 1 the recorded build, 2 use of a Tlas, 3 mark of one Blas, 4 mark of one Tlas", and a Build's two counts
+-- "Add, beside the old mark, a mark that names each Tlas's Blases: kind 5 ... Every rule takes it for a Build of those lists"
+abbrev pub namesLists : ℕ → Bool
+namesLists kind = eqb kind 1 || eqb kind 5
+
+-- "Actions: kind, operand: 1 the recorded build, 2 use of a Tlas, 3 mark of one Blas, 4 mark of one Tlas", and two counts of what names lists
 unfoldable pub action : List ℕ → ℕ → ℕ → ℕ → ℕ → Action
 action lists kind operand blases tlases =
-    elim (eqb kind 1) [
+    elim (namesLists kind) [
       | true ↦ buildAt lists operand blases tlases
       | false ↦ cond (eqb kind 2) (useTlas operand)
           (cond (eqb kind 3) (markBlas operand) (cond (eqb kind 4) (markTlas operand) malformed))

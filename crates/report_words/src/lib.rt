@@ -105,6 +105,7 @@ fn put_kind(out: &mut [u8], at: usize, kind: u64) -> usize
         2 => put(out, at, b"use of a Tlas at action"),
         3 => put(out, at, b"mark of a Blas at action"),
         4 => put(out, at, b"mark of a Tlas at action"),
+        5 => put(out, at, b"mark as built at action"),
         _ => put(out, at, b"action"),
     }
 }
@@ -311,11 +312,11 @@ fn build_place(n: u64, first: u64) -> usize
     shifted(n, 4, 6, 3, other)
 }
 
-// By the kind.
+// By the kind: of a Build and of a mark that names lists, of a use, and of none.
 fn unbuilt_place(kind: u64) -> usize
     ensures { λ r. ⌜ r ≡ unbuiltPlace kind ⌝ }
 {
-    pick(kind == 1, 50, pick(kind == 2, 53, 54))
+    pick(either(kind == 1, kind == 5), 50, pick(kind == 2, 53, 54))
 }
 
 fn action_place(n: u64, kind: u64) -> usize

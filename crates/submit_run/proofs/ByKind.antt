@@ -1,6 +1,6 @@
--- An action by its kind: a Build, a use, a mark, or none; and where its operand is too large for an id.
+-- An action by its kind: one that names lists, a use, a mark without any, or none; and where its operand is too large for an id.
 use mathlib.Core.Path.{_≡_, sym, ap}
-use mathlib.Core.Bool.{Bool, cond}
+use mathlib.Core.Bool.{Bool, true, false, cond}
 use mathlib.Core.Option.{none, some}
 use mathlib.Core.List.{List, [], _∷_}
 use Prim.Native.Nat.{ℕ, _≤_, _<_}
@@ -21,6 +21,7 @@ use Rattle.ray_tracing.specs.Submission.{
   packagesAt,
   packagesLent,
   buildAt,
+  namesLists,
   action,
   refused,
   _leaving_,
@@ -38,28 +39,28 @@ use Rattle.submit_checks.proofs.Start.{Ready}
 use Rattle.submit_run.specs.Cells.{largestId, operandCause}
 
 module _ (lists : List ℕ) (kind o b t : ℕ) where
-  pub kind-build : kind ≡ 1 → action lists kind o b t ≡ buildAt lists o b t
+  pub kind-build : namesLists kind ≡ true → action lists kind o b t ≡ buildAt lists o b t
   unfolding action
-  kind-build e = rw (action, eq-eqb _ _ e)
+  kind-build e = rw (action, e)
 
-  module _ (n₁ : ¬ (kind ≡ 1)) where
+  module _ (n₁ : namesLists kind ≡ false) where
     pub kind-use : kind ≡ 2 → action lists kind o b t ≡ useTlas o
     unfolding action
-    kind-use e = rw (action, ne-eqb _ _ n₁, eq-eqb _ _ e)
+    kind-use e = rw (action, n₁, eq-eqb _ _ e)
 
     module _ (n₂ : ¬ (kind ≡ 2)) where
       pub kind-mark-blas : kind ≡ 3 → action lists kind o b t ≡ markBlas o
       unfolding action
-      kind-mark-blas e = rw (action, ne-eqb _ _ n₁, ne-eqb _ _ n₂, eq-eqb _ _ e)
+      kind-mark-blas e = rw (action, n₁, ne-eqb _ _ n₂, eq-eqb _ _ e)
 
       module _ (n₃ : ¬ (kind ≡ 3)) where
         pub kind-mark-tlas : kind ≡ 4 → action lists kind o b t ≡ markTlas o
         unfolding action
-        kind-mark-tlas e = rw (action, ne-eqb _ _ n₁, ne-eqb _ _ n₂, ne-eqb _ _ n₃, eq-eqb _ _ e)
+        kind-mark-tlas e = rw (action, n₁, ne-eqb _ _ n₂, ne-eqb _ _ n₃, eq-eqb _ _ e)
 
         kind-none : ¬ (kind ≡ 4) → action lists kind o b t ≡ malformed
         unfolding action
-        kind-none n₄ = rw (action, ne-eqb _ _ n₁, ne-eqb _ _ n₂, ne-eqb _ _ n₃, ne-eqb _ _ n₄)
+        kind-none n₄ = rw (action, n₁, ne-eqb _ _ n₂, ne-eqb _ _ n₃, ne-eqb _ _ n₄)
 
 -- ---- its operand
 
@@ -69,7 +70,7 @@ module _ (n o : ℕ) (h : n ≤ 128) (k : largestId < o) where
   unfolding refuse
   too-large = ap (λ (t : Bool). mentioned (refuse t 6 0)) (le-leb n o (omega arith))
 
-module _ (l : Lent) (r : Ready l) (lists : List ℕ) (kind o b t : ℕ) (n₁ : ¬ (kind ≡ 1)) where
+module _ (l : Lent) (r : Ready l) (lists : List ℕ) (kind o b t : ℕ) (n₁ : namesLists kind ≡ false) where
   is-none : action lists kind o b t ≡ malformed → before l (action lists kind o b t) ≡ some (bare 5)
   unfolding before
   is-none e = rw e
@@ -131,7 +132,7 @@ is-id kind o e =
 -- ---- a mark, as the Build of its own lists
 
 pub mark-build :
-    (lists : List ℕ) (kind o b t : ℕ) → Id kind o → ¬ (kind ≡ 1) → ¬ (kind ≡ 2) → {p q : ℕ} → p ≡ cond (eqb kind 3) 1 0
+    (lists : List ℕ) (kind o b t : ℕ) → Id kind o → namesLists kind ≡ false → ¬ (kind ≡ 2) → {p q : ℕ} → p ≡ cond (eqb kind 3) 1 0
     → q ≡ cond (eqb kind 3) 0 1 → buildAt (o ∷ 0 ∷ []) 0 p q ≡ action lists kind o b t
 unfolding packagesLent packagesAt
 mark-build lists kind o b t i n₁ n₂ e f =

@@ -1,8 +1,9 @@
-// The actions of a submission: one by its kind, a Build, a use, or a mark, which is a Build too; and in turn, to the first that is
-// refused.
+// The actions of a submission: one by its kind, a Build, a use, or a mark, which is a Build too, of lists of its own or of those that it
+// names; and in turn, to the first that is refused.
 use ray_tracing::Submitted;
 use ray_tracing::TlasId;
 use ray_tracing::ValidateAsActionsError;
+use ray_tracing::either;
 use ray_tracing::pick;
 use submit_build::build_action;
 use submit_checks::Checked;
@@ -16,10 +17,21 @@ ghost use lib.ListN.{length};
 ghost use lib.Dec.{eqb};
 ghost use Rattle.ray_tracing.specs.Causes.{bare};
 ghost use Rattle.ray_tracing.specs.Submission as Submission;
-ghost use Rattle.ray_tracing.specs.Submission.{judge, action, decode, accepted, refused, answerOf, counterOf};
+ghost use Rattle.ray_tracing.specs.Submission.{judge, action, namesLists, decode, accepted, refused, answerOf, counterOf};
 ghost use Rattle.ray_tracing.specs.Submission.{outcomeOf, lentOf, lentWith, pieceOf, buffersOf};
 ghost use Rattle.submit_checks.specs.Outcome.{checkedCause, Acts};
 ghost use Rattle.submit_run.specs.Cells.{cellsAt, operandCause};
+
+// Kinds of action.
+const BUILD: u32 = 1;
+
+const USE_TLAS: u32 = 2;
+
+const MARK_BLAS: u32 = 3;
+
+const MARK_TLAS: u32 = 4;
+
+const MARK_BUILT: u32 = 5;
 
 // An operand is a number until it is judged.
 const LARGEST_ID: u32 = 65535;
@@ -44,14 +56,21 @@ fn cells_at(actions: &[u32], at: usize) -> Cells
     }
 }
 
-// Of an action that is no Build: 5 of its kind, then 6 of an operand that no id is as large as.
+// A Build, and the mark that names each Tlas's Blases.
+fn names_lists(kind: u32) -> bool
+    ensures { λ r. ⌜ r ≡ namesLists kind ⌝ }
+{
+    either(kind == BUILD, kind == MARK_BUILT)
+}
+
+// Of an action that names no lists: 5 of its kind, then 6 of an operand that no id is as large as.
 fn judge_operand(kind: u32, operand: u32) -> Checked
     ensures { λ r. ⌜ checkedCause r ≡ operandCause kind operand ⌝ }
 {
-    if kind < 2 {
+    if kind < USE_TLAS {
         return Checked::Refused(ValidateAsActionsError::InvalidValue);
     }
-    if 4 < kind {
+    if MARK_TLAS < kind {
         return Checked::Refused(ValidateAsActionsError::InvalidValue);
     }
     if LARGEST_ID < operand {
@@ -60,7 +79,7 @@ fn judge_operand(kind: u32, operand: u32) -> Checked
     Checked::Fine
 }
 
-// One action, as action `index`. A mark is a Build whose Tlases list nothing: its lists stand in an array of its own.
+// One action, as action `index`. A mark without lists is a Build whose Tlases list nothing: its lists stand in an array of its own.
 fn step(
     counter: u64,
     blases: &mut [u8],
@@ -82,7 +101,7 @@ fn step(
 {
     let kind = cells.kind;
     let operand = cells.operand;
-    if kind == 1 {
+    if names_lists(kind) {
         return build_action(
             counter,
             blases,
@@ -101,7 +120,7 @@ fn step(
         return submitted(checked, index, counter);
     }
     let id = operand as u16;
-    if kind == 2 {
+    if kind == USE_TLAS {
         return use_action(
             counter,
             &blases[..],
@@ -113,8 +132,8 @@ fn step(
         );
     }
     let own = [id, 0];
-    let blas_mark = pick(kind == 3, 1, 0);
-    let tlas_mark = pick(kind == 3, 0, 1);
+    let blas_mark = pick(kind == MARK_BLAS, 1, 0);
+    let tlas_mark = pick(kind == MARK_BLAS, 0, 1);
     build_action(
         counter,
         blases,
