@@ -12,7 +12,7 @@ use lib.ListN.{length, take, drop, getD, length-append, length-drop, List·getD-
 use lib.Seq.{drop-cons, drop-append-le, take-append-le}
 use lib.Dec.{leb, eqb}
 use borrow.Author.Tests.{leb-true, le-leb}
-use Rattle.ray_tracing.specs.Submission.{Lent, Piece, Package, Action, build, useTlas, markBlas, markTlas, malformed, Outcome, judge, submission, packageFrom, pastPackage, packagesAt, packagesLent, buildAt, namesLists, action, decodeCells, decode}
+use Rattle.ray_tracing.specs.Submission.{Lent, Piece, Package, Action, build, useTlas, markBlas, markTlas, malformed, Outcome, judge, submission, packageFrom, pastPackage, packagesAt, packagesLent, buildAt, takenFor, actionOf, action, decodeCells, decode}
 use Rattle.ray_tracing.specs.Claim.{Each, Cut, Fits}
 use Rattle.ray_tracing.proofs.Outcomes.{OutcomeSent}
 use Rattle.ray_tracing.proofs.Demand3.{demand-3}
@@ -141,10 +141,8 @@ module _ (lists more : List ℕ) where
       go true false p q d = absurd (d refl)
       go false b p q d = absurd (d refl)
 
-  -- an action that is well formed is the same with more cells behind its lists
-  pub action-longer : (k o b t : ℕ) → ¬ (action lists k o b t ≡ malformed) → action (lists ++ more) k o b t ≡ action lists k o b t
-  unfolding action
-  action-longer k o b t d = go (namesLists k) d
+  of-longer : (k o b t : ℕ) → ¬ (actionOf lists k o b t ≡ malformed) → actionOf (lists ++ more) k o b t ≡ actionOf lists k o b t
+  of-longer k o b t d = go (eqb k 1) d
     where
       other : Action
       other = cond (eqb k 2) (useTlas o) (cond (eqb k 3) (markBlas o) (cond (eqb k 4) (markTlas o) malformed))
@@ -153,3 +151,8 @@ module _ (lists more : List ℕ) where
           → _≡_ {A = Action} (elim x [ true ↦ buildAt (lists ++ more) o b t | false ↦ other ]) (elim x [ true ↦ buildAt lists o b t | false ↦ other ])
       go true d = build-longer o b t d
       go false d = refl
+
+  -- an action that is well formed is the same with more cells behind its lists
+  pub action-longer : (k o b t : ℕ) → ¬ (action lists k o b t ≡ malformed) → action (lists ++ more) k o b t ≡ action lists k o b t
+  unfolding action
+  action-longer k o b t d = of-longer (takenFor k) _ _ _ d

@@ -3,7 +3,7 @@
 use Prim.Native.Nat.{ℕ, zero, suc, _+_, _*_, _/_, _<_}
 use native.Mathlib.Nat.{zero-add}
 use native.Mathlib.Omega.{arith}
-use mathlib.Core.Path.{_≡_, refl, sym, ap}
+use mathlib.Core.Path.{_≡_, refl, sym, ap, _∙_}
 use mathlib.Core.Bool.{Bool, true, false, _&&_, _||_, cond, false≢true}
 use mathlib.Core.List.{List, [], _∷_, _++_}
 use mathlib.Core.Logic.{_↔_}
@@ -18,7 +18,7 @@ use Rattle.ray_tracing.specs.Layout.{layout, size}
 use Rattle.ray_tracing.specs.Records.{fieldAt}
 use Rattle.ray_tracing.specs.Reading.{accepted, readSheet, table}
 use Rattle.ray_tracing.specs.Plan.{Tables, recordsIn}
-use Rattle.ray_tracing.specs.Submission.{Piece, Action, malformed, action, decodeCells, decode, Buffers, Submits, Validates}
+use Rattle.ray_tracing.specs.Submission.{Piece, Action, malformed, takenFor, actionOf, action, decodeCells, decode, Buffers, Submits, Validates}
 use Rattle.ray_tracing.specs.MarkBuilt.{asBuilds, withBuilds}
 use Rattle.ray_tracing.specs.Report.{kept, cellsOf, actionCells, sheetPiece}
 use Rattle.ray_tracing.proofs.Sheets.{lent-tells, accepted-lent}
@@ -61,10 +61,16 @@ validates-as-builds i j x y p v =
 
 -- ---- no other kind
 
+taken-for-itself : (k : ℕ) → 5 < k → takenFor k ≡ k
+taken-for-itself k h = rw (ne-eqb k 5 (λ e. omega arith))
+
+no-kind : (lists : List ℕ) (k o b t : ℕ) → 5 < k → actionOf lists k o b t ≡ malformed
+no-kind lists k o b t h =
+    rw (actionOf, ne-eqb k 1 (λ e. omega arith), ne-eqb k 2 (λ e. omega arith), ne-eqb k 3 (λ e. omega arith), ne-eqb k 4 (λ e. omega arith))
+
 pub no-kind-above : (lists : List ℕ) (k o b t : ℕ) → 5 < k → action lists k o b t ≡ malformed
 unfolding action
-no-kind-above lists k o b t h =
-    rw (action, ne-eqb k 1 (λ e. omega arith), ne-eqb k 5 (λ e. omega arith), ne-eqb k 2 (λ e. omega arith), ne-eqb k 3 (λ e. omega arith), ne-eqb k 4 (λ e. omega arith))
+no-kind-above lists k o b t h = ap (λ (m : ℕ). actionOf lists m o b t) (taken-for-itself k h) ∙ no-kind lists k o b t h
 
 -- ---- "an action of library submissions only"
 

@@ -173,10 +173,10 @@ kindWords kind =
     (cond (eqb kind 3) "mark of a Blas at action"
     (cond (eqb kind 4) "mark of a Tlas at action" (cond (eqb kind 5) "mark as built at action" "action"))))
 
--- "42 gives Blas, Tlas in a Build and Tlas, Blas in a use"
+-- "42 gives Blas, Tlas in a Build and Tlas, Blas in a use"; the mark of kind 5 is taken for a Build
 abbrev pub unbuiltItems : ℕ → ℕ → ℕ → List Item
 unbuiltItems kind first second =
-    cond (submission.namesLists kind) ("Blas" is first ∷ "Tlas" is second ∷ [])
+    cond (eqb kind 1 || eqb kind 5) ("Blas" is first ∷ "Tlas" is second ∷ [])
     (cond (eqb kind 2) ("Tlas" is first ∷ "Blas" is second ∷ []) ("Blas or Tlas" is first ∷ "Tlas or Blas" is second ∷ []))
 
 -- the column "Returned" of a submission, the action apart

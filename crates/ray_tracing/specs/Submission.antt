@@ -1,7 +1,7 @@
 -- "Submission", in the paper's order and words, over what is lent, as bytes and cells: an outcome tells each of them. Assumes nothing.
 use Prim.Native.Nat.{ℕ, zero, suc, _+_, _*_, _/_, _%_, _^_}
 use mathlib.Core.Path.{_≡_}
-use mathlib.Core.Bool.{Bool, true, false, _&&_, _||_, cond}
+use mathlib.Core.Bool.{Bool, true, false, _&&_, cond}
 use mathlib.Core.Option.{Option, none, some}
 use mathlib.Core.List.{List, [], _∷_}
 use lib.ListN.{length, take, drop, getD, set}
@@ -192,17 +192,20 @@ buildAt lists at blases tlases =
     ]
 
 -- "Add, beside the old mark, a mark that names each Tlas's Blases: kind 5 ... Every rule takes it for a Build of those lists"
-abbrev pub namesLists : ℕ → Bool
-namesLists kind = eqb kind 1 || eqb kind 5
+abbrev pub takenFor : ℕ → ℕ
+takenFor kind = cond (eqb kind 5) 1 kind
 
--- "Actions: kind, operand: 1 the recorded build, 2 use of a Tlas, 3 mark of one Blas, 4 mark of one Tlas", and two counts of what names lists
-unfoldable pub action : List ℕ → ℕ → ℕ → ℕ → ℕ → Action
-action lists kind operand blases tlases =
-    elim (namesLists kind) [
+-- "Actions: kind, operand: 1 the recorded build, 2 use of a Tlas, 3 mark of one Blas, 4 mark of one Tlas", and a Build's two counts
+abbrev pub actionOf : List ℕ → ℕ → ℕ → ℕ → ℕ → Action
+actionOf lists kind operand blases tlases =
+    elim (eqb kind 1) [
       | true ↦ buildAt lists operand blases tlases
       | false ↦ cond (eqb kind 2) (useTlas operand)
           (cond (eqb kind 3) (markBlas operand) (cond (eqb kind 4) (markTlas operand) malformed))
     ]
+
+unfoldable pub action : List ℕ → ℕ → ℕ → ℕ → ℕ → Action
+action lists kind operand blases tlases = actionOf lists (takenFor kind) operand blases tlases
 
 -- four cells after four; a part of an action at the end is none
 unfoldable pub decodeCells : List ℕ → List ℕ → List Action

@@ -8,7 +8,6 @@ use mathlib.Core.List.{List, [], _∷_, _++_, append-assoc}
 use lib.Dec.{eqb, ltb, leb}
 use borrow.Author.Tests.{ltb-true, ltb-false, le-leb, leb-true, eqb-true, ne-eqb}
 use Rattle.ray_tracing.specs.Causes.{Cause, cause}
-use Rattle.ray_tracing.specs.Submission.{namesLists}
 use Rattle.ray_tracing.specs.Report.{ascii, decimal, digits}
 use Rattle.ray_tracing.specs.Explain.{
   nothing,
@@ -242,7 +241,7 @@ module _ (call e f x y z : ℕ) where
 
   submit-others : AllFrom Submit 39 6
   unfolding letter filled pastLines lines digits numberFor
-  submit-others = refl and refl and refl and unbuilt (namesLists f) (eqb f 2) and refl and refl and end
+  submit-others = refl and refl and refl and unbuilt (eqb f 1 || eqb f 5) (eqb f 2) and refl and refl and end
 
   submit :
       (n : ℕ)

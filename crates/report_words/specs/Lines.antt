@@ -6,7 +6,6 @@ use mathlib.Core.List.{List, [], _∷_, _++_, map}
 use lib.Dec.{eqb}
 use Rattle.ray_tracing.specs.Causes.{cause}
 use Rattle.ray_tracing.specs.Report.{decimal, ascii}
-use Rattle.ray_tracing.specs.Submission.{namesLists}
 use Rattle.ray_tracing.specs.Explain.{Item, _is_, causeWords, kindWords, placeItems, figureItems, actionItems, manyItems, recordItems, between}
 use Rattle.report_words.specs.declared.Refusal.{Refusal}
 
@@ -134,7 +133,7 @@ buildPlace n first =
 
 -- of 42, by the kind
 abbrev pub unbuiltPlace : ℕ → ℕ
-unbuiltPlace kind = cond (namesLists kind) 50 (cond (eqb kind 2) 53 54)
+unbuiltPlace kind = cond (eqb kind 1 || eqb kind 5) 50 (cond (eqb kind 2) 53 54)
 
 abbrev pub actionPlace : ℕ → ℕ → ℕ
 actionPlace n kind =

@@ -1,6 +1,6 @@
--- An action by its kind: one that names lists, a use, a mark without any, or none; and where its operand is too large for an id.
+-- An action by its kind: a Build, a use, a mark, or none; and where its operand is too large for an id.
 use mathlib.Core.Path.{_≡_, sym, ap}
-use mathlib.Core.Bool.{Bool, true, false, cond}
+use mathlib.Core.Bool.{Bool, cond}
 use mathlib.Core.Option.{none, some}
 use mathlib.Core.List.{List, [], _∷_}
 use Prim.Native.Nat.{ℕ, _≤_, _<_}
@@ -21,7 +21,8 @@ use Rattle.ray_tracing.specs.Submission.{
   packagesAt,
   packagesLent,
   buildAt,
-  namesLists,
+  takenFor,
+  actionOf,
   action,
   refused,
   _leaving_,
@@ -38,29 +39,29 @@ use Rattle.ray_tracing.proofs.Firsts.{or-none, on-none, within, outside}
 use Rattle.submit_checks.proofs.Start.{Ready}
 use Rattle.submit_run.specs.Cells.{largestId, operandCause}
 
-module _ (lists : List ℕ) (kind o b t : ℕ) where
-  pub kind-build : namesLists kind ≡ true → action lists kind o b t ≡ buildAt lists o b t
-  unfolding action
-  kind-build e = rw (action, e)
+-- by what it is taken for
+pub as-taken : (lists : List ℕ) (kind o b t : ℕ) {k : ℕ} → k ≡ takenFor kind → action lists kind o b t ≡ actionOf lists k o b t
+unfolding action
+as-taken lists kind o b t e = ap (λ (k : ℕ). actionOf lists k o b t) (sym e)
 
-  module _ (n₁ : namesLists kind ≡ false) where
-    pub kind-use : kind ≡ 2 → action lists kind o b t ≡ useTlas o
-    unfolding action
-    kind-use e = rw (action, n₁, eq-eqb _ _ e)
+module _ (lists : List ℕ) (kind o b t : ℕ) where
+  pub kind-build : kind ≡ 1 → actionOf lists kind o b t ≡ buildAt lists o b t
+  kind-build e = rw (actionOf, eq-eqb _ _ e)
+
+  module _ (n₁ : ¬ (kind ≡ 1)) where
+    pub kind-use : kind ≡ 2 → actionOf lists kind o b t ≡ useTlas o
+    kind-use e = rw (actionOf, ne-eqb _ _ n₁, eq-eqb _ _ e)
 
     module _ (n₂ : ¬ (kind ≡ 2)) where
-      pub kind-mark-blas : kind ≡ 3 → action lists kind o b t ≡ markBlas o
-      unfolding action
-      kind-mark-blas e = rw (action, n₁, ne-eqb _ _ n₂, eq-eqb _ _ e)
+      pub kind-mark-blas : kind ≡ 3 → actionOf lists kind o b t ≡ markBlas o
+      kind-mark-blas e = rw (actionOf, ne-eqb _ _ n₁, ne-eqb _ _ n₂, eq-eqb _ _ e)
 
       module _ (n₃ : ¬ (kind ≡ 3)) where
-        pub kind-mark-tlas : kind ≡ 4 → action lists kind o b t ≡ markTlas o
-        unfolding action
-        kind-mark-tlas e = rw (action, n₁, ne-eqb _ _ n₂, ne-eqb _ _ n₃, eq-eqb _ _ e)
+        pub kind-mark-tlas : kind ≡ 4 → actionOf lists kind o b t ≡ markTlas o
+        kind-mark-tlas e = rw (actionOf, ne-eqb _ _ n₁, ne-eqb _ _ n₂, ne-eqb _ _ n₃, eq-eqb _ _ e)
 
-        kind-none : ¬ (kind ≡ 4) → action lists kind o b t ≡ malformed
-        unfolding action
-        kind-none n₄ = rw (action, n₁, ne-eqb _ _ n₂, ne-eqb _ _ n₃, ne-eqb _ _ n₄)
+        kind-none : ¬ (kind ≡ 4) → actionOf lists kind o b t ≡ malformed
+        kind-none n₄ = rw (actionOf, ne-eqb _ _ n₁, ne-eqb _ _ n₂, ne-eqb _ _ n₃, ne-eqb _ _ n₄)
 
 -- ---- its operand
 
@@ -70,25 +71,25 @@ module _ (n o : ℕ) (h : n ≤ 128) (k : largestId < o) where
   unfolding refuse
   too-large = ap (λ (t : Bool). mentioned (refuse t 6 0)) (le-leb n o (omega arith))
 
-module _ (l : Lent) (r : Ready l) (lists : List ℕ) (kind o b t : ℕ) (n₁ : namesLists kind ≡ false) where
-  is-none : action lists kind o b t ≡ malformed → before l (action lists kind o b t) ≡ some (bare 5)
+module _ (l : Lent) (r : Ready l) (lists : List ℕ) (kind o b t : ℕ) (n₁ : ¬ (kind ≡ 1)) where
+  is-none : actionOf lists kind o b t ≡ malformed → before l (actionOf lists kind o b t) ≡ some (bare 5)
   unfolding before
   is-none e = rw e
 
-  of-use : largestId < o → kind ≡ 2 → before l (action lists kind o b t) ≡ some (bare 6)
+  of-use : largestId < o → kind ≡ 2 → before l (actionOf lists kind o b t) ≡ some (bare 6)
   unfolding before
   of-use h e = rw (kind-use lists kind o b t n₁ e, too-large (tlasCount l) o (omega (arith, r .few-tlases)) h)
 
-  of-mark-blas : largestId < o → ¬ (kind ≡ 2) → kind ≡ 3 → before l (action lists kind o b t) ≡ some (bare 6)
+  of-mark-blas : largestId < o → ¬ (kind ≡ 2) → kind ≡ 3 → before l (actionOf lists kind o b t) ≡ some (bare 6)
   unfolding before
   of-mark-blas h n₂ e = rw (kind-mark-blas lists kind o b t n₁ n₂ e, too-large (blasCount l) o (r .few-blases) h)
 
-  of-mark-tlas : largestId < o → ¬ (kind ≡ 2) → ¬ (kind ≡ 3) → kind ≡ 4 → before l (action lists kind o b t) ≡ some (bare 6)
+  of-mark-tlas : largestId < o → ¬ (kind ≡ 2) → ¬ (kind ≡ 3) → kind ≡ 4 → before l (actionOf lists kind o b t) ≡ some (bare 6)
   unfolding before
   of-mark-tlas h n₂ n₃ e =
       rw (kind-mark-tlas lists kind o b t n₁ n₂ n₃ e, too-large (tlasCount l) o (omega (arith, r .few-tlases)) h)
 
-  of-large : 2 ≤ kind → kind ≤ 4 → largestId < o → before l (action lists kind o b t) ≡ some (bare 6)
+  of-large : 2 ≤ kind → kind ≤ 4 → largestId < o → before l (actionOf lists kind o b t) ≡ some (bare 6)
   of-large lo hi h =
       elim (decLt kind 3) [
         | yes k ↦ of-use h (omega arith)
@@ -99,7 +100,7 @@ module _ (l : Lent) (r : Ready l) (lists : List ℕ) (kind o b t : ℕ) (n₁ : 
       ]
 
   -- what refuses the operand is what is judged first of the action
-  pub judged-first : (operandCause kind o orElse before l (action lists kind o b t)) ≡ before l (action lists kind o b t)
+  pub judged-first : (operandCause kind o orElse before l (actionOf lists kind o b t)) ≡ before l (actionOf lists kind o b t)
   judged-first =
       elim (decLt kind 2) [
         | yes h ↦ rw (lt-ltb kind 2 h) (sym (is-none (kind-none lists kind o b t n₁ (λ e. omega arith) (λ e. omega arith) (λ e. omega arith))))
@@ -132,8 +133,8 @@ is-id kind o e =
 -- ---- a mark, as the Build of its own lists
 
 pub mark-build :
-    (lists : List ℕ) (kind o b t : ℕ) → Id kind o → namesLists kind ≡ false → ¬ (kind ≡ 2) → {p q : ℕ} → p ≡ cond (eqb kind 3) 1 0
-    → q ≡ cond (eqb kind 3) 0 1 → buildAt (o ∷ 0 ∷ []) 0 p q ≡ action lists kind o b t
+    (lists : List ℕ) (kind o b t : ℕ) → Id kind o → ¬ (kind ≡ 1) → ¬ (kind ≡ 2) → {p q : ℕ} → p ≡ cond (eqb kind 3) 1 0
+    → q ≡ cond (eqb kind 3) 0 1 → buildAt (o ∷ 0 ∷ []) 0 p q ≡ actionOf lists kind o b t
 unfolding packagesLent packagesAt
 mark-build lists kind o b t i n₁ n₂ e f =
     elim (decLt kind 4) [

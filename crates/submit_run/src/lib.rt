@@ -1,9 +1,8 @@
-// The actions of a submission: one by its kind, a Build, a use, or a mark, which is a Build too, of lists of its own or of those that it
-// names; and in turn, to the first that is refused.
+// The actions of a submission: one by its kind, a Build, a use, or a mark, which is a Build too; and in turn, to the first that is
+// refused.
 use ray_tracing::Submitted;
 use ray_tracing::TlasId;
 use ray_tracing::ValidateAsActionsError;
-use ray_tracing::either;
 use ray_tracing::pick;
 use submit_build::build_action;
 use submit_checks::Checked;
@@ -17,7 +16,7 @@ ghost use lib.ListN.{length};
 ghost use lib.Dec.{eqb};
 ghost use Rattle.ray_tracing.specs.Causes.{bare};
 ghost use Rattle.ray_tracing.specs.Submission as Submission;
-ghost use Rattle.ray_tracing.specs.Submission.{judge, action, namesLists, decode, accepted, refused, answerOf, counterOf};
+ghost use Rattle.ray_tracing.specs.Submission.{judge, action, takenFor, decode, accepted, refused, answerOf, counterOf};
 ghost use Rattle.ray_tracing.specs.Submission.{outcomeOf, lentOf, lentWith, pieceOf, buffersOf};
 ghost use Rattle.submit_checks.specs.Outcome.{checkedCause, Acts};
 ghost use Rattle.submit_run.specs.Cells.{cellsAt, operandCause};
@@ -56,14 +55,17 @@ fn cells_at(actions: &[u32], at: usize) -> Cells
     }
 }
 
-// A Build, and the mark that names each Tlas's Blases.
-fn names_lists(kind: u32) -> bool
-    ensures { λ r. ⌜ r ≡ namesLists kind ⌝ }
+// The mark that names each Tlas's Blases is taken for a Build.
+fn taken_for(kind: u32) -> u32
+    ensures { λ r. ⌜ r ≡ takenFor kind ⌝ }
 {
-    either(kind == BUILD, kind == MARK_BUILT)
+    if kind == MARK_BUILT {
+        return BUILD;
+    }
+    kind
 }
 
-// Of an action that names no lists: 5 of its kind, then 6 of an operand that no id is as large as.
+// Of an action that is no Build: 5 of its kind, then 6 of an operand that no id is as large as.
 fn judge_operand(kind: u32, operand: u32) -> Checked
     ensures { λ r. ⌜ checkedCause r ≡ operandCause kind operand ⌝ }
 {
@@ -79,7 +81,7 @@ fn judge_operand(kind: u32, operand: u32) -> Checked
     Checked::Fine
 }
 
-// One action, as action `index`. A mark without lists is a Build whose Tlases list nothing: its lists stand in an array of its own.
+// One action, as action `index`. A mark of one id is a Build whose Tlases list nothing: its lists stand in an array of its own.
 fn step(
     counter: u64,
     blases: &mut [u8],
@@ -99,9 +101,9 @@ fn step(
         r
         (buffersOf (now (blases .exit)) (now (tlases .exit)) (now («dependency_counts» .exit)) (now (dependencies .exit))) ⌝ }
 {
-    let kind = cells.kind;
+    let kind = taken_for(cells.kind);
     let operand = cells.operand;
-    if names_lists(kind) {
+    if kind == BUILD {
         return build_action(
             counter,
             blases,
