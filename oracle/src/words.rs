@@ -126,7 +126,8 @@ pub fn words(call: u64, number: u64, e: [u64; 2], f: [u64; 3]) -> String {
             }
         }
         3 => {
-            let kind = ["", "recorded build at ", "use of a Tlas at ", "mark of a Blas at ", "mark of a Tlas at ", "mark as built at "];
+            let kind =
+                ["", "recorded build at ", "use of a Tlas at ", "mark of a Blas at ", "mark of a Tlas at ", "mark as built at "];
             let kind = usize::try_from(e[1]).ok().and_then(|k| kind.get(k)).unwrap_or(&"");
             line += &format!(", {kind}action {}", e[0]);
             let figures: &[&str] = match (number, e[1]) {

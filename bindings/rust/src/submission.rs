@@ -282,7 +282,9 @@ impl Judged<'_> {
         };
         match (self.number, kind) {
             (5, BUILD | MARK_BUILT) => self.past(at, operand, blases, tlases),
-            (5, _) => Some(Misfit::Value { at, field: "kind", value: kind.into(), may: May::Range(BUILD.into(), MARK_BUILT.into()) }),
+            (5, _) => {
+                Some(Misfit::Value { at, field: "kind", value: kind.into(), may: May::Range(BUILD.into(), MARK_BUILT.into()) })
+            }
             (6, USE_TLAS | MARK_TLAS) => tables.outside(at, "its tlas", operand.into(), 4),
             (6, MARK_BLAS) => tables.outside(at, "its blas", operand.into(), 2),
             (4 | 6, BUILD | MARK_BUILT) => self.build(action, operand, blases, tlases),

@@ -55,12 +55,14 @@ fn refused(world: &World, make: &dyn Fn(&mut Actions)) -> String {
     let mut actions = Actions::default();
     make(&mut actions);
     let (mut marked, mut built) = (world.clone(), world.clone());
-    let of_mark = marked.submit(&actions).unwrap_err();
+    let mut of_mark = marked.submit(&actions).unwrap_err();
     let of_build = built.submit(&as_builds(&actions)).unwrap_err();
+    let words = of_mark.to_string();
     assert_eq!(marked, built);
     assert_eq!((of_mark.kind, of_build.kind), (MARK_BUILT, BUILD));
-    assert_eq!(SubmitRefused { kind: BUILD, ..of_mark.clone() }, of_build);
-    of_mark.to_string()
+    of_mark.kind = BUILD;
+    assert_eq!(of_mark, of_build);
+    words
 }
 
 #[test]
@@ -112,7 +114,10 @@ fn refusals_are_a_builds() {
         "refused 6: id outside its table, mark as built at action 0; action 0, list of its tlas 1: blas is 3, there are 3 blases"
     );
     assert_eq!(refused(&one(0), &of(&[BlasId(0)], &[])), "refused 40: counter 0, mark as built at action 0");
-    assert_eq!(refused(&one(9), &of(&[BlasId(0)], &[])), "refused 41: Blas to build is compacted, mark as built at action 0, Blas 0");
+    assert_eq!(
+        refused(&one(9), &of(&[BlasId(0)], &[])),
+        "refused 41: Blas to build is compacted, mark as built at action 0, Blas 0"
+    );
     // its step, its Blases and its earlier Tlases stand, as the comparison with the Build says
     assert_eq!(
         refused(&fresh, &of(&[BlasId(0)], &[(TlasId(1), &[BlasId(0), BlasId(2)]), (TlasId(0), &[BlasId(0), BlasId(1)])])),
@@ -128,7 +133,8 @@ fn what_is_left_is_a_builds() {
     actions.mark_built(&[], &[]).unwrap();
     actions.use_tlas(TlasId(0));
     actions.use_tlas(TlasId(1));
-    let mut marked = World::new(u64::MAX - 3, &[(BlasCompactState::Ready, 0), (BlasCompactState::Waiting, 1), (BlasCompactState::Idle, 2)]);
+    let mut marked =
+        World::new(u64::MAX - 3, &[(BlasCompactState::Ready, 0), (BlasCompactState::Waiting, 1), (BlasCompactState::Idle, 2)]);
     let mut built = marked.clone();
     marked.submit(&actions).unwrap();
     built.submit(&as_builds(&actions)).unwrap();
