@@ -12,7 +12,8 @@ What long runs of the static library gave, each as the run printed it: written b
 """
 EMPTY = {"compare": "## Against the Rust\n\nNot run.\n", "robust": "## At the boundary\n\nNot run.\n"}
 NAMES = """Of version 2: `sheet_2` reads a sheet, `wide` builds with all offsets below 2^32, `above` with one from 2^32 on, of which the Rust says nothing;
-`to_2` and `to_1` convert a sheet. `back` reads instances back from their records, of a case or as `append` or `many` wrote them."""
+`to_2` and `to_1` convert a sheet. `back` reads instances back from their records, of a case or as `append` or `many` wrote them. `mark_5` are the marks
+that name their Blases, each that a `submit` reached, by what the Rust answers to a Build of the same lists."""
 file = pathlib.Path(__file__).resolve().parent.parent / "docs/RUNS.md"
 
 

@@ -213,8 +213,8 @@ fn piece(kinds: &[usize]) -> Piece {
     (actions, lists)
 }
 
-/// Every list of up to three actions, of up to two at the counters 0, 1 and 2^64 - 1; and lists of six, one of all kinds, cut at
-/// every choice of places.
+/// Every list of up to three actions, of up to two at the counters 0, 1 and 2^64 - 1; kinds that there are not; and lists of six, one
+/// of all kinds, cut at every choice of places.
 fn actions(list: &mut List) {
     for (counter, most) in [(5, 3), (1, 2), (TOP, 2), (0, 2)] {
         for n in 0..=most {
@@ -223,6 +223,10 @@ fn actions(list: &mut List) {
                 list.take(Submission { counter, ..small() }.with_pieces(vec![piece(&kinds)]));
             }
         }
+    }
+    // kinds that there are not, with lists
+    for kind in [0, 6, 7, 255, 261, 65541, u32::MAX] {
+        list.take(small().with_pieces(alone(kind, &[0], &[(0, &[0])])));
     }
     for (counter, six) in [(5, [0, 2, 5, 1, 4, 3]), (TOP - 1, [0, 7, 3, 2, 6, 2]), (5, [0, 8, 2, 6, 4, 2])] {
         for cuts in 0..32 {
