@@ -18,7 +18,7 @@ use Rattle.ray_tracing.specs.Layout.{layout, size}
 use Rattle.ray_tracing.specs.Records.{fieldAt}
 use Rattle.ray_tracing.specs.Reading.{accepted, readSheet, table}
 use Rattle.ray_tracing.specs.Plan.{Tables, recordsIn}
-use Rattle.ray_tracing.specs.Submission.{Piece, Action, malformed, takenFor, actionOf, action, decodeCells, decode, Buffers, Submits, Validates}
+use Rattle.ray_tracing.specs.Submission.{Piece, malformed, takenFor, actionOf, action, decodeCells, decode, Buffers, Submits, Validates}
 use Rattle.ray_tracing.specs.MarkBuilt.{asBuilds, withBuilds}
 use Rattle.ray_tracing.specs.Report.{kept, cellsOf, actionCells, sheetPiece}
 use Rattle.ray_tracing.proofs.Sheets.{lent-tells, accepted-lent}
@@ -81,14 +81,14 @@ within false b e = absurd (false≢true e)
 
 module _ (s : List ℕ) (x : Sheet) (e : readSheet s ≡ accepted x) where
   -- an accepted sheet has none
-  pub sheet-kinds : (i : ℕ) → i < length (table s 9) / size 9 → eqb (fieldAt 9 (table s 9) (i * size 9) 0) 5 ≡ false
-  sheet-kinds i h =
+  pub sheet-kinds : (i : ℕ) → i < length (table s 9) / size 9 → ¬ (fieldAt 9 (table s 9) (i * size 9) 0 ≡ 5)
+  sheet-kinds i h z =
       let t = lent-tells 9 (layout 9) _ _ _ (accepted-lent s x e 8 (lit< tt)) in
       let r = records-each _ (layout 9 .fields) (table s 9) (length (table s 9) / size 9) 0 (t .records) i h in
       let f = field-fits _ _ _ _ _ (rw zero-add at r) .0 in
       let v = fieldAt 9 (table s 9) (i * size 9) 0 in
       let k = leb-true v 4 (within (ltb 0 v) (leb v 4) f) in
-      ne-eqb v 5 (λ z. omega (arith, k, z))
+      omega (arith, k, z)
 
 -- four cells of no such mark, before others
 kept-cells : (k o b t : ℕ) (more : List ℕ) → eqb k 5 ≡ false → asBuilds more ≡ more → asBuilds (k ∷ o ∷ b ∷ t ∷ more) ≡ k ∷ o ∷ b ∷ t ∷ more
@@ -108,13 +108,13 @@ made-cells x k o more true e r = go (eqb k 1)
 
 made :
     (x : Tables) (wasRecorded : Bool) (a : List ℕ) (n i : ℕ)
-    → ((j : ℕ) → j < i + n → eqb (fieldAt 9 a (j * size 9) 0) 5 ≡ false)
+    → ((j : ℕ) → j < i + n → ¬ (fieldAt 9 a (j * size 9) 0 ≡ 5))
     → asBuilds (actionCells x wasRecorded a i n) ≡ actionCells x wasRecorded a i n
 unfolding actionCells
 made x wasRecorded a zero i f = refl
 made x wasRecorded a (suc n) i f =
     let k = fieldAt 9 a (i * size 9) 0 in
-    made-cells x k (fieldAt 9 a (i * size 9) 1) (actionCells x wasRecorded a (i + 1) n) (kept wasRecorded k) (f i (omega arith))
+    made-cells x k (fieldAt 9 a (i * size 9) 1) (actionCells x wasRecorded a (i + 1) n) (kept wasRecorded k) (ne-eqb k 5 (f i (omega arith)))
     (made x wasRecorded a n (i + 1) (λ j h. f j (omega arith)))
 
 -- and a report, of whatever build, makes none of it

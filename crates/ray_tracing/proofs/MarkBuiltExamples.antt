@@ -1,12 +1,12 @@
 -- The mark that names each Tlas's Blases, computed over lent bytes, and demand 3 at a list of calls that has one: example 7 with such a mark of
 -- B0 and of T0 over B0 in place of the first Build.
-use Prim.Native.Nat.{ℕ, _-_, _^_}
+use Prim.Native.Nat.{ℕ}
 use native.Mathlib.Omega.{arith}
 use mathlib.Core.Path.{_≡_, refl, sym, ap}
 use mathlib.Core.Bool.{Bool, true, false}
 use mathlib.Core.List.{List, [], _∷_, _++_, flatten}
-use lib.ListN.{length, getD, replicate}
-use lib.Dec.{eqb, lit<}
+use lib.ListN.{getD}
+use lib.Dec.{lit<}
 use Rattle.wire.specs.Wire.{leAt, leBytes}
 use Rattle.ray_tracing.specs.declared.Version.the-variants as version
 use Rattle.ray_tracing.specs.declared.CommandIndices.{CommandIndices}
@@ -24,7 +24,7 @@ use Rattle.ray_tracing.specs.Submission.{Lent, Buffers, buffersOf, malfo
 use Rattle.ray_tracing.specs.MarkBuilt.{withBuilds}
 use Rattle.ray_tracing.specs.Report.{sheetPiece}
 use Rattle.ray_tracing.specs.History.{Built, allowed, acts, tellAction, tellActions, history}
-use Rattle.ray_tracing.specs.Claim.{SubmitShows, ValidateShows, noCall, call, Sent, send, sendRefused, Usable, ByHistory, Demand-3}
+use Rattle.ray_tracing.specs.Claim.{SubmitShows, ValidateShows, noCall, call, send, sendRefused, Usable, ByHistory, Demand-3}
 use Rattle.ray_tracing.proofs.DemandExamples.{Example, submitting, cutting, telling, AllShow, lent, piece, lists-7, first-7, second-7, single, blasWith, start, built-7}
 use Rattle.ray_tracing.proofs.DemandExamples as examples
 use Rattle.ray_tracing.proofs.MarkBuilt.{submits-as-builds, validates-as-builds, no-kind-above, sheet-kinds, report-makes-none}
@@ -87,7 +87,7 @@ read-4 : readSheet (sheet-with 4) ≡ reading.accepted (sheetOf (sheet-with 4))
 unfolding leAt leBytes refuse judgeFields judgeRecords judgeDrawn sumOfCounts versionIn past from judgeSection judgeSections judgeSheet readSheet sectionBytes sheetBytes
 read-4 = refl
 
-kind-4 : eqb (fieldAt 9 (table (sheet-with 4) 9) 3 0) 5 ≡ false
+kind-4 : ¬ (fieldAt 9 (table (sheet-with 4) 9) 3 0 ≡ 5)
 unfolding leAt leBytes versionIn past from sectionBytes sheetBytes
 kind-4 = sheet-kinds (sheet-with 4) (sheetOf (sheet-with 4)) read-4 1 (lit< tt)
 

@@ -204,6 +204,7 @@ actionOf lists kind operand blases tlases =
           (cond (eqb kind 3) (markBlas operand) (cond (eqb kind 4) (markTlas operand) malformed))
     ]
 
+-- an action by its cells
 unfoldable pub action : List ℕ → ℕ → ℕ → ℕ → ℕ → Action
 action lists kind operand blases tlases = actionOf lists (takenFor kind) operand blases tlases
 
