@@ -1,6 +1,6 @@
 -- The mark that names each Tlas's Blases, computed over lent bytes, and demand 3 at a list of calls that has one: example 7 with such a mark of
 -- B0 and of T0 over B0 in place of the first Build.
-use Prim.Native.Nat.{ℕ}
+use Prim.Native.Nat.{ℕ, zero, suc, _<_}
 use native.Mathlib.Omega.{arith}
 use mathlib.Core.Path.{_≡_, refl, sym, ap}
 use mathlib.Core.Bool.{Bool, true, false}
@@ -20,11 +20,11 @@ use Rattle.ray_tracing.specs.Canonical.{sectionBytes, sheetBytes}
 use Rattle.ray_tracing.specs.Records.{fieldAt}
 use Rattle.ray_tracing.specs.Causes.{cause, bare}
 use Rattle.ray_tracing.specs.Plan.{Tables}
-use Rattle.ray_tracing.specs.Submission.{Lent, Buffers, buffersOf, malformed, accepted, refused, _leaving_, blasIn, tlasIn, listIn, judge, judgeLists, packagesAt, packagesLent, action, decodeCells, decode, before, builtBlas, builtBlases, builtTlas, buildTlases, act, step, run, submission, Submits, Shown, shown, Validates}
+use Rattle.ray_tracing.specs.Submission.{Lent, Buffers, buffersOf, blasCount, tlasCount, blas, tlas, malformed, accepted, refused, _leaving_, blasIn, tlasIn, listIn, judge, judgeLists, packagesAt, packagesLent, action, decodeCells, decode, before, builtBlas, builtBlases, builtTlas, buildTlases, act, step, run, submission, Submits, Shown, shown, Validates}
 use Rattle.ray_tracing.specs.MarkBuilt.{withBuilds}
 use Rattle.ray_tracing.specs.Report.{sheetPiece}
-use Rattle.ray_tracing.specs.History.{Built, allowed, acts, tellAction, tellActions, history}
-use Rattle.ray_tracing.specs.Claim.{SubmitShows, ValidateShows, noCall, call, send, sendRefused, Usable, ByHistory, Demand-3}
+use Rattle.ray_tracing.specs.History.{among, Built, allowed, acts, tellAction, tellActions, history}
+use Rattle.ray_tracing.specs.Claim.{SubmitShows, ValidateShows, noCall, call, send, sendRefused, Each, Usable, NumbersBelow, ByHistory, Demand-3}
 use Rattle.ray_tracing.proofs.DemandExamples.{Example, submitting, cutting, telling, AllShow, lent, piece, lists-7, first-7, second-7, single, blasWith, start, built-7}
 use Rattle.ray_tracing.proofs.DemandExamples as examples
 use Rattle.ray_tracing.proofs.MarkBuilt.{submits-as-builds, validates-as-builds, no-kind-above, sheet-kinds, report-makes-none}
@@ -40,6 +40,16 @@ then-7 = lent 6 5 0 5 (0 ∷ []) 511
 
 abbrev end-7 : Lent
 end-7 = lent 7 6 0 5 (0 ∷ []) 511
+
+-- the mark of B0 and of T0 over B0, one of B1, use T0, and what they leave
+abbrev marked-after : List ℕ
+marked-after = 5 ∷ 0 ∷ 1 ∷ 1 ∷ 5 ∷ 4 ∷ 1 ∷ 0 ∷ 2 ∷ 0 ∷ 0 ∷ 0 ∷ []
+
+abbrev lists-after : List ℕ
+lists-after = lists-7 ++ (1 ∷ [])
+
+abbrev after-7 : Lent
+after-7 = lent 7 5 6 5 (0 ∷ []) 511
 
 -- the old marks of B0 and T0, use T0, then mark B0, use T0
 abbrev old-marks : List ℕ
@@ -65,11 +75,13 @@ list =
     ∷ submitting then-7 (piece (5 ∷ 1 ∷ 1 ∷ 1 ∷ []) (7 ∷ 0 ∷ 0 ∷ 1 ∷ 1 ∷ [])) (refused 0 (cause 42 1 0 0) leaving end-7)
     -- 11: kind 6 is none
     ∷ submitting start (piece (6 ∷ 0 ∷ 1 ∷ 1 ∷ []) lists-7) (refused 0 (bare 5) leaving start)
+    -- 12: T0 marked over B0, then a mark of B1 alone: the use passes
+    ∷ submitting start (piece marked-after lists-after) (accepted leaving after-7)
     ∷ []
 
 pub all : AllShow list
 unfolding judge judgeLent judgeRecords judgeFields judgeLists leAt leBytes blasIn tlasIn listIn refuse packagesAt packagesLent action decodeCells before builtBlas builtBlases builtTlas buildTlases act step run submission allowed acts tellAction tellActions flatten
-all = (refl, (refl, (refl, (refl, (refl, (refl, (refl, (refl, (refl, (refl, (refl, (refl, tt))))))))))))
+all = (refl, (refl, (refl, (refl, (refl, (refl, (refl, (refl, (refl, (refl, (refl, (refl, (refl, tt)))))))))))))
 
 -- ---- "an action of library submissions only"
 
@@ -148,6 +160,27 @@ rule-44 : Usable start (remarked ∷ built-7 ∷ []) 0 → _≡_ {A = Bool} fals
 unfolding packagesAt packagesLent action decodeCells history allowed acts tellAction tellActions blasIn tlasIn listIn leAt leBytes
 rule-44 =
     demand .uses (piece marked-7 lists-7 ∷ []) 6 (buffers then-7) (call call-7 noCall) (piece second-7 []) shown-44 call-44 1 0 refl (lit< tt) .rule refl .1
+
+-- a start without numbers has none above its counter
+none-numbered : NumbersBelow start
+unfolding blasIn tlasIn leAt leBytes
+none-numbered = record { blases = blases; tlases = tlases }
+  where
+    blases : (b : ℕ) → b < blasCount start → ¬ (blas start b .«built_index» ≡ 0) → blas start b .«built_index» < 5
+    blases zero k n = absurd (n refl)
+    blases (suc zero) k n = absurd (n refl)
+    blases (suc (suc b)) k n = let q : blasCount start ≡ 2 = refl in absurd (omega arith)
+
+    tlases : (t : ℕ) → t < tlasCount start → ¬ (tlas start t .«built_index» ≡ 0) → tlas start t .«built_index» < 5
+    tlases zero k n = absurd (n refl)
+    tlases (suc t) k n = let q : tlasCount start ≡ 1 = refl in absurd (omega arith)
+
+-- B1 was marked after T0's own mark, the use passes, and B0, which T0 lists, was not marked by it
+fresh-7 : Each (λ (b : ℕ). Each (λ (e : Built). among b (e .blases) ≡ false) (record { number = 6; blases = 1 ∷ []; tlases = [] } ∷ [])) (0 ∷ [])
+unfolding packagesAt packagesLent action decodeCells history allowed acts tellAction tellActions blasIn tlasIn listIn leAt leBytes
+fresh-7 =
+    demand .uses [] 5 (buffers start) noCall (piece marked-after lists-after) (shown (accepted leaving after-7))
+    (record { answer = submitted.Accepted 7; called = sym (all .1 .1 .1 .1 .1 .1 .1 .1 .1 .1 .1 .1 .0); numbers = refl; counter = refl }) 2 0 refl (lit< tt) .fresh none-numbered refl
 
 -- the tables after both calls are the history's
 tables-7 : ByHistory start (remarked ∷ built-7 ∷ []) end-7
