@@ -176,3 +176,72 @@ fn what_has_no_room_is_named_and_not_added() {
     assert_eq!(misfit.to_string(), "action 0, list of its tlas 0: count of blases is 65536, may be 0 to 65535");
     assert_eq!(actions, Actions::default());
 }
+
+/// A number of Marsaglia's xorshift, below n.
+fn below(state: &mut u64, n: u64) -> u64 {
+    *state ^= *state << 13;
+    *state ^= *state >> 7;
+    *state ^= *state << 17;
+    *state % n
+}
+
+/// An action of any of the five kinds, over three Blases and two Tlases.
+fn draw(actions: &mut Actions, state: &mut u64) {
+    let mut id = || u16::try_from(below(state, 6)).unwrap();
+    let (kind, b, t) = (id(), BlasId(id() % 3), TlasId(id() % 2));
+    let [first, second] = [0; 2].map(|_| [0; 2].map(|_| BlasId(id() % 3)));
+    let lists: [(TlasId, &[BlasId]); 2] = [(t, &first), (TlasId(1 - t.0), &second[..usize::from(id() % 3)])];
+    let lists = &lists[..usize::from(id() % 3)];
+    match kind {
+        0 => actions.build(&[b], lists).unwrap(),
+        1 => actions.mark_blas(b),
+        2 => actions.mark_tlas(t),
+        3 => actions.mark_built(&[b], lists).unwrap(),
+        _ => actions.use_tlas(t),
+    }
+}
+
+/// A list of 60 actions that is accepted, but for one that is now and then refused midway.
+fn long_list(start: &World, state: &mut u64) -> Actions {
+    let (mut actions, mut world) = (Actions::default(), start.clone());
+    while actions.count() < 60 {
+        let (before, mut one, mut tried) = (*state, Actions::default(), world.clone());
+        draw(&mut one, state);
+        let passes = tried.submit(&one).is_ok();
+        if passes || below(state, 40) == 0 {
+            draw(&mut actions, &mut before.clone());
+            world = tried;
+        }
+    }
+    actions
+}
+
+/// What is answered, the action counted through.
+fn answered(answer: Result<(), SubmitRefused>, before: usize) -> Option<(u64, u64, [u64; 2])> {
+    answer.err().map(|r| (r.number, r.action + u64::try_from(before).unwrap(), r.figures))
+}
+
+#[test]
+fn long_lists_of_all_kinds_are_the_same_however_cut() {
+    let start = World::new(5, &idle(&[0, 0, 3]));
+    let (mut state, mut accepted, mut refused) = (0x5eed, 0, 0);
+    for _ in 0..200 {
+        let list = long_list(&start, &mut state);
+        assert!((1..=5).all(|kind| list.actions.iter().step_by(4).any(|k| *k == kind)));
+        let mut whole = start.clone();
+        let uncut = answered(whole.submit(&list), 0);
+        (accepted, refused) = if uncut.is_none() { (accepted + 1, refused) } else { (accepted, refused + 1) };
+        for _ in 0..20 {
+            let (mut world, mut sent, mut answer) = (start.clone(), 0, None);
+            while sent < list.count() && answer.is_none() {
+                let most = u64::try_from(list.count() - sent).unwrap();
+                let n = 1 + usize::try_from(below(&mut state, most)).unwrap();
+                let piece = Actions { actions: list.actions[4 * sent..4 * (sent + n)].to_vec(), lists: list.lists.clone() };
+                answer = answered(world.submit(&piece), sent);
+                sent += n;
+            }
+            assert_eq!((answer, &world), (uncut, &whole));
+        }
+    }
+    assert!(accepted > 20 && refused > 20, "{accepted} accepted, {refused} refused");
+}
