@@ -22,8 +22,12 @@ ENTRY = {
     "report": "report",
     "explain": "explain",
 }
-# demand 3 is a theorem; what it states is a definition
-CLAIMS = {"demand 3": ("ray_tracing/specs/Claim.antt", "Demand-3")}
+# theorems of calls of `submit`; what they ask and state are definitions
+CALLS = ("ray_tracing/specs/Claim.antt", "SubmitShows")
+CLAIMS = {
+    "submit with demand 3": [CALLS, ("ray_tracing/specs/Claim.antt", "Demand-3")],
+    "submit in either order": [CALLS, ("ray_tracing/specs/EitherOrder.antt", "TwoSenders"), ("ray_tracing/specs/EitherOrder.antt", "EitherOrder")],
+}
 SYMBOL = r"[^\s(){}\[\],;«»⌜⌝]+"
 ITEM = re.compile(r"^(?:(?:abbrev|unfoldable) )?(?:pub )?(?:(record|data) )?([^\s:(){}]+)(?= |$)")
 
@@ -180,7 +184,7 @@ def rests():
         if found:
             answer[function] = closure(files, cited(files, *found))
     for claim, at in CLAIMS.items():
-        answer[f"submit with {claim}"] = closure(files, [at]) | answer.get("submit", set())
+        answer[claim] = closure(files, at) | answer.get("submit", set())
     return files, answer
 
 

@@ -76,7 +76,7 @@ def rests():
             crate, _, file = module.partition("/specs/")
             where.setdefault(crate, []).append(file.removesuffix(".antt"))
         inside = "; ".join(f"`{crate}`: " + ", ".join(names) for crate, names in where.items())
-        label = name if name.startswith("submit with") else f"`{name}`"
+        label = name if name in contracts.CLAIMS else f"`{name}`"
         rows.append(f"| {label} | {sum(count.values())} | {inside} |")
     return "\n".join(rows), answer
 

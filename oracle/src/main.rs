@@ -14,6 +14,7 @@ mod layout;
 mod library;
 mod many;
 mod mutants;
+mod orders;
 mod paper;
 mod reading;
 mod record;
@@ -32,6 +33,7 @@ use side::Side;
 
 fn usage() -> ! {
     eprintln!("usage: oracle sheet < SHEET | batch FILE | compare N [SEED] [reading [FAULT]] | case FILE [reading]");
+    eprintln!("       oracle orders N [SEED] [reading [FAULT]]");
     eprintln!("       oracle examples [reading] | faults N | recorded-faults | texts N | mutant K SRC DST | record FOLDER | corpus N FOLDER");
     exit(2)
 }
@@ -114,6 +116,14 @@ fn run() {
             let fine = quiet || examples::run(Some((other.as_mut(), &name)));
             let most = if quiet { 1 } else { 3 };
             if !compare::run(other.as_mut(), &name, count, seed.unwrap_or(1), most, quiet, &out) || !fine {
+                exit(1);
+            }
+        }
+        Some("orders") => {
+            let Some(count) = word(1).and_then(|w| w.parse().ok()) else { usage() };
+            let seed = word(2).and_then(|w| w.parse().ok());
+            let (mut other, name) = other_side(&args[if seed.is_some() { 3 } else { 2 }.min(args.len())..]);
+            if !orders::run(other.as_mut(), &name, count, seed.unwrap_or(1)) {
                 exit(1);
             }
         }

@@ -54,7 +54,10 @@ pub mod Lent
 pub mod Told
 pub mod Outcomes
 pub mod Callers
+pub mod Views
+pub mod EitherOrder
 pub mod DemandExamples
 pub mod MarkBuiltExamples
+pub mod EitherOrderExamples
 pub mod Examples
 pub mod ReachedExamples

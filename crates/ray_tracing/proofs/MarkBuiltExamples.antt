@@ -188,7 +188,7 @@ unfolding packagesAt packagesLent action decodeCells history allowed acts tellAc
 tables-7 = demand .tables (piece marked-7 lists-7 ∷ piece second-7 [] ∷ []) 7 (buffers end-7) (call call-7 (call call-44 noCall))
 
 -- the same cut of `validate_acceleration_structure_actions`
-abbrev indices : ℕ → CommandIndices
+abbrev pub indices : ℕ → CommandIndices
 indices n = record { «active_submission_index» = 9; «next_acceleration_structure_build_command_index» = n }
 
 abbrev fine : Validated

@@ -15,6 +15,7 @@ pub mod Submission
 pub mod MarkBuilt
 pub mod History
 pub mod Claim
+pub mod EitherOrder
 pub mod Meaning
 pub mod Canonical
 pub mod Conversion
