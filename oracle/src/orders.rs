@@ -281,8 +281,8 @@ impl Pair {
         }
     }
 
-    /// The premises that fail; 40 is looked for in the sender's two answers.
-    fn failed(&self, answers: &[[u64; 4]; 2]) -> Vec<Premise> {
+    /// The premises that fail; 40 is looked for in the answer to the sender's list where it came second.
+    fn failed(&self, second: [u64; 4]) -> Vec<Premise> {
         let counter = self.start.indices[1];
         let below = |n: u64| n == 0 || n < counter;
         let within = |s: usize, t: usize| !self.tlases.has(s, t as u16) || self.blases.all(s, self.start.starting_list(t));
@@ -293,7 +293,7 @@ impl Pair {
             StartingLists => (0..2).all(|s| (0..self.tlases.0.len()).all(|t| within(s, t))),
             BlasNumbers => (0..self.blases.0.len()).all(|b| below(self.start.blas_number(b))),
             TlasNumbers => (0..self.tlases.0.len()).all(|t| below(self.start.tlas_number(t))),
-            No40 => answers.iter().all(|a| a[0] != 40),
+            No40 => second[0] != 40,
         };
         PREMISES.into_iter().map(|(premise, _)| premise).filter(|&premise| !holds(premise)).collect()
     }
@@ -402,7 +402,7 @@ pub fn run(other: &mut dyn Side, name: &str, count: u64, seed: u64) -> bool {
         for sender in 0..2 {
             let answers = [0, 1].map(|o| orders[o].answers[sender]);
             let (same, newer) = (answers[0] == answers[1], pair.newer_same(other, sender, &orders));
-            match pair.failed(&answers)[..] {
+            match pair.failed(answers[1 - sender])[..] {
                 [] => {
                     let [number, action, ..] = answers[sender];
                     let row = tally.met.entry(number).or_default();

@@ -15,14 +15,14 @@ use Rattle.ray_tracing.specs.Causes.{Cause}
 use Rattle.ray_tracing.specs.Submission.{Lent, Piece, Action, build, useTlas, malformed, Outcome, accepted, refused, _leaving_, left, _followedBy_, blasSize, tlasSize, blasCount, tlasCount, blasIn, tlasIn, blas, tlas, dependenciesOf, judge, run, submission, decode, Buffers, lentWith, Shown, shown}
 use Rattle.ray_tracing.specs.History.{every}
 use Rattle.ray_tracing.specs.Claim.{Routine, SubmitShows, ValidateShows, NumbersBelow}
-use Rattle.ray_tracing.specs.EitherOrder.{Sender, ShareNone, ownPackage, ownAction, Sends, TwoSenders, InOrder, No40, aBlas, aTlas, newer, SameNewer, leftBy, metBy, SameInEither, EitherOrder}
+use Rattle.ray_tracing.specs.EitherOrder.{Sender, ShareNone, ownPackage, ownAction, Sends, TwoSenders, InOrder, aBlas, aTlas, newer, SameNewer, leftBy, metBy, SameInEither, EitherOrder}
 use Rattle.ray_tracing.proofs.Zeroed.{le-zero}
 use Rattle.ray_tracing.proofs.Sheets.{lent-tells}
 use Rattle.ray_tracing.proofs.Sound.{Sound, sound}
 use Rattle.ray_tracing.proofs.Allowed.{and-true, true-and}
 use Rattle.ray_tracing.proofs.Cuts.{run-append, submission-run}
 use Rattle.ray_tracing.proofs.Callers.{submit-shows, validate-shows}
-use Rattle.ray_tracing.proofs.Views.{Held, now, old, value, has, Own, Alike, alike-self, alike-sym, alike-newer, Both, both, first40, second40, elsewhere, submission-alike, submission-elsewhere}
+use Rattle.ray_tracing.proofs.Views.{Relation, Held, now, old, value, has, Own, Alike, alike-self, alike-with, alike-sym, alike-newer, Both, both, first40, second40, BothStep, FirstSteps, elsewhere, submission-alike, submission-elsewhere}
 
 -- ---- the start
 
@@ -85,11 +85,22 @@ other-action d e s malformed h = refl
 abbrev numberOfAnswer : Outcome → ℕ
 numberOfAnswer o = shown o .numbers .number
 
-both-alike : (d : Sender) {o q : Outcome} → Both d o q → ¬ (numberOfAnswer o ≡ 40) → ¬ (numberOfAnswer q ≡ 40)
-    → (shown o .numbers ≡ shown q .numbers) × Alike d 0 0 (left o) (left q)
-both-alike d (both v) f g = (refl, v)
-both-alike d first40 f g = absurd (f refl)
-both-alike d second40 f g = absurd (g refl)
+-- m is n or further on; 0 is past the last number
+abbrev Ahead : Relation
+Ahead n m = ¬ (m ≡ 0) → (¬ (n ≡ 0)) × (n ≤ m)
+
+both-step : BothStep Ahead
+both-step n m c a b f g z = let k = c b .1 in (λ e. omega (arith, e, z), omega (arith, z))
+
+first-steps : FirstSteps (λ n m. Ahead m n)
+first-steps n m c a f z = let k = c a in (k .0, let h = k .1 in omega (arith, z))
+
+-- so a list that meets 40 where it comes first meets it where it comes second
+both-alike : (d : Sender) {o q : Outcome} → Both Ahead d o q → ¬ (numberOfAnswer q ≡ 40)
+    → (shown o .numbers ≡ shown q .numbers) × Alike Ahead d 0 0 (left o) (left q)
+both-alike d (both v) g = (refl, v)
+both-alike d (first40 c z w) g = absurd (c w .0 z)
+both-alike d second40 g = absurd (g refl)
 
 -- a list that meets no 40 meets none in its first part
 then-40 : (o : Outcome) (f : Lent → Outcome) → numberOfAnswer o ≡ 40 → numberOfAnswer (o followedBy f) ≡ 40
@@ -125,16 +136,17 @@ refused-start d l c e p q =
 same-outcomes : (d : Sender) (l : Lent) → Sound l → NumbersBelow l
     → ((t : ℕ) → t < tlasCount l → d .tlas t ≡ true → every (d .blas) (dependenciesOf l t) ≡ true)
     → (p q : List Action) → every (ownAction d) p ≡ true → every (elsewhere d) q ≡ true
-    → ¬ (numberOfAnswer (submission l p) ≡ 40) → ¬ (numberOfAnswer (submission (left (submission l q)) p) ≡ 40) → OutcomesSame d l p q
-same-outcomes d l s b k p q own other f g =
-    let w = alike-sym d (submission-elsewhere d (alike-self d (start-own d l s b k)) q other) in
-    let last = both-alike d (submission-alike d w p own) f g in
+    → ¬ (numberOfAnswer (submission (left (submission l q)) p) ≡ 40) → OutcomesSame d l p q
+same-outcomes d l s b k p q own other g =
+    let v = alike-self d {C = λ n m. Ahead m n} (λ z. (z, omega arith)) (start-own d l s b k) in
+    let w = alike-sym d (submission-elsewhere (λ n m. Ahead m n) d first-steps v q other) in
+    let last = both-alike d (submission-alike Ahead d both-step w p own) g in
     record {
       answer = last .0;
       during =
           λ i. alike-newer d
-          (both-alike d (submission-alike d w (take i p) (every-take (ownAction d) i p own)) (take-40 l s p i f) (take-40 (left (submission l q)) (w .that .sound) p i g) .1);
-      after = alike-newer d (submission-elsewhere d (last .1) q other);
+          (both-alike d (submission-alike Ahead d both-step w (take i p) (every-take (ownAction d) i p own)) (take-40 (left (submission l q)) (w .that .sound) p i g) .1);
+      after = alike-newer d (submission-elsewhere (λ n m. Unit {0}) d (λ n m c a f. tt) (alike-with d tt (last .1)) q other);
     }
 
 -- ---- a routine
@@ -158,7 +170,7 @@ module _ (R : Routine) (shows : (n : ℕ) (x : Buffers) (p : Piece) (s : Shown) 
 
   -- one sender's half
   half : (n : ℕ) (x : Buffers) → n < 2 ^ 64 → NumbersBelow (lentWith n x) → (d e : Sender) (p q : Piece) → ShareNone d e → Sends d p (lentWith n x) → Sends e q (lentWith n x)
-      → (o : InOrder R n x p q) (o′ : InOrder R n x q p) → No40 o o′ → SameInEither d o o′
+      → (o : InOrder R n x p q) (o′ : InOrder R n x q p) → ¬ (o′ .second .numbers .number ≡ 40) → SameInEither d o o′
   half n x f b d e p q a s t o o′ u =
       let same = go (judge (lentWith n x)) refl in
       record {
@@ -171,8 +183,7 @@ module _ (R : Routine) (shows : (n : ℕ) (x : Buffers) (p : Piece) (s : Shown) 
       go none j =
           same-outcomes d (lentWith n x) (sound (lentWith n x) f j) b (s .lists) (decode p) (decode q) (s .own)
           (every-map (ownAction e) (elsewhere d) (other-action d e a) (decode q) (t .own))
-          (λ z. u .first (ap (λ (s : Shown). s .numbers .number) (one o) ∙ z))
-          (λ z. u .second (ap (λ (s : Shown). s .numbers .number) (two o′) ∙ z))
+          (λ z. u (ap (λ (s : Shown). s .numbers .number) (two o′) ∙ z))
       go (some c) j = refused-start d (lentWith n x) c j (decode p) (decode q)
 
   pub either-order-of : (n : ℕ) (x : Buffers) (d e : Sender) (p q : Piece) → n < 2 ^ 64 → TwoSenders (lentWith n x) d e p q → EitherOrder R n x d e p q

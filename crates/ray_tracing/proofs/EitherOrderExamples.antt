@@ -19,7 +19,7 @@ use Rattle.ray_tracing.specs.Causes.{cause, bare, unbuiltInUse}
 use Rattle.ray_tracing.specs.Submission.{Lent, Piece, Answer, accepted, refused, Outcome, _leaving_, left, blasCount, tlasCount, blas, tlas, dependenciesOf, blasIn, tlasIn, listIn, judge, judgeLists, packagesAt, packagesLent, action, decodeCells, decode, before, builtBlas, builtBlases, builtTlas, buildTlases, act, step, run, submission, Buffers, lentWith, Numbers, Submits, Shown, shown}
 use Rattle.ray_tracing.specs.History.{every, among}
 use Rattle.ray_tracing.specs.Claim.{SubmitShows, ValidateShows, NumbersBelow}
-use Rattle.ray_tracing.specs.EitherOrder.{Sender, ShareNone, ownAction, Sends, TwoSenders, InOrder, No40, Structure, aBlas, aTlas, newer, metBy, leftBy, SameInEither}
+use Rattle.ray_tracing.specs.EitherOrder.{Sender, ShareNone, ownAction, Sends, TwoSenders, InOrder, Structure, aBlas, aTlas, newer, metBy, leftBy, SameInEither}
 use Rattle.ray_tracing.proofs.Allowed.{and-true}
 use Rattle.ray_tracing.proofs.DemandExamples.{blasBytes, tlasBytes, piece}
 use Rattle.ray_tracing.proofs.MarkBuiltExamples.{indices}
@@ -229,22 +229,22 @@ validated-second =
 same-1 : SameInEither (sender ids-1) first-then-second second-then-first
 same-1 =
     either-order-of-submit 5 start (sender ids-1) (sender ids-2) list-1 list-2 (lit< tt) two-senders .one first-then-second second-then-first
-    (record { first = λ e. omega (arith, e); second = λ e. omega (arith, e) })
+    (λ e. omega (arith, e))
 
 same-2 : SameInEither (sender ids-2) second-then-first first-then-second
 same-2 =
     either-order-of-submit 5 start (sender ids-1) (sender ids-2) list-1 list-2 (lit< tt) two-senders .other first-then-second second-then-first
-    (record { first = λ e. omega (arith, e); second = λ e. omega (arith, e) })
+    (λ e. omega (arith, e))
 
 validated-1 : SameInEither (sender ids-1) validated-first validated-second
 validated-1 =
     either-order-of-validate 5 start (sender ids-1) (sender ids-2) list-1 list-2 (lit< tt) two-senders .one validated-first validated-second
-    (record { first = λ e. omega (arith, e); second = λ e. omega (arith, e) })
+    (λ e. omega (arith, e))
 
 validated-2 : SameInEither (sender ids-2) validated-second validated-first
 validated-2 =
     either-order-of-validate 5 start (sender ids-1) (sender ids-2) list-1 list-2 (lit< tt) two-senders .other validated-first validated-second
-    (record { first = λ e. omega (arith, e); second = λ e. omega (arith, e) })
+    (λ e. omega (arith, e))
 
 -- its fields: the first list is 44 in either order, at its use in action 4 B1 is newer than T0 after the second list too, and so it is at the end
 answered : newer-44 ≡ second-then-first .second .numbers
@@ -280,23 +280,23 @@ abbrev not40 : Answer → Bool
 not40 accepted = true
 not40 (refused i c) = not (eqb (c .number) 40)
 
+-- the answer to q, after p
+abbrev second : Lent → Piece → Piece → Answer
+second l p q = answerIn (submission (left (submission l (decode p))) (decode q))
+
 abbrev numberBelow : ℕ → ℕ → Bool
 numberBelow n c = eqb n 0 || ltb n c
 
 -- which of the premises fail, by tests of the four Blases and two Tlases
 pub failed : Lent → Ids → Ids → Piece → Piece → List Premise
 failed l d e p q =
-    let o = submission l (decode p) in
-    let o′ = submission l (decode q) in
     unless (every (λ b. not (among b (e .blases))) (d .blases)) noCommonBlas
     (unless (every (λ t. not (among t (e .tlases))) (d .tlases)) noCommonTlas
     (unless (every (ownAction (sender d)) (decode p) && every (ownAction (sender e)) (decode q)) ownMentions
     (unless (every (within l d) (d .tlases) && every (within l e) (e .tlases)) startingLists
     (unless (every (λ b. numberBelow (blas l b .«built_index») (l .counter)) (0 ∷ 1 ∷ 2 ∷ 3 ∷ [])) blasNumbers
     (unless (every (λ t. numberBelow (tlas l t .«built_index») (l .counter)) (0 ∷ 1 ∷ [])) tlasNumbers
-    (unless
-    (not40 (answerIn o) && (not40 (answerIn (submission (left o) (decode q))) && (not40 (answerIn o′) && not40 (answerIn (submission (left o′) (decode p))))))
-    no40 []))))))
+    (unless (not40 (second l p q) && not40 (second l q p)) no40 []))))))
 
 -- what is answered to each of two lists in this order, and whether the one structure is newer than the other at the end
 pub record Computed : Type 0 where

@@ -1,7 +1,8 @@
 -- What one sender sees of the tables. Two lent states are alike to it where its own records differ in nothing but their numbers, and these
 -- stand in the same order. Its own actions keep them alike and are answered alike, until one meets 40; actions that write nothing of the
--- sender's, on either side, keep them alike too.
-use Prim.Native.Nat.{ℕ, _/_, _^_, _≤_, _<_}
+-- sender's, on either side, keep them alike too. C is any relation of the two counters that is kept with it: which of them may meet 40 alone
+-- goes by it.
+use Prim.Native.Nat.{ℕ, _+_, _/_, _%_, _^_, _≤_, _<_}
 use native.Mathlib.Omega.{arith}
 use mathlib.Core.Path.{_≡_, refl, sym, ap, _∙_, subst}
 use mathlib.Core.Bool.{Bool, true, false, _&&_, not}
@@ -9,7 +10,7 @@ use mathlib.Core.Option.{Option, none, some, Option·getD}
 use mathlib.Core.List.{List, [], _∷_}
 use lib.ListN.{length}
 use lib.Dec.{eqb, ltb}
-use borrow.Author.Tests.{eqb-false, ne-eqb, ltb-true, ltb-false, lt-ltb, le-ltb, not-true}
+use borrow.Author.Tests.{eqb-true, eqb-false, ne-eqb, ltb-true, ltb-false, lt-ltb, le-ltb, not-true}
 use Rattle.ray_tracing.specs.declared.Blas.{Blas}
 use Rattle.ray_tracing.specs.declared.Tlas.{Tlas}
 use Rattle.ray_tracing.specs.Causes.{Cause, cause, unbuiltInUse, bare}
@@ -58,7 +59,12 @@ pub record Own (d : Sender) (n : ℕ) (l : Lent) : Type 0 where
 abbrev unnumberedBlas : Blas → Blas
 unnumberedBlas r = blasWith (r .«compacted_state») 0 r
 
-pub record Alike (d : Sender) (n m : ℕ) (l r : Lent) : Type 0 where
+-- what is kept of the two counters
+abbrev pub Relation : Type 1
+Relation = ℕ → ℕ → Type 0
+
+pub record Alike (C : Relation) (d : Sender) (n m : ℕ) (l r : Lent) : Type 0 where
+  pub counters : C (l .counter) (r .counter)
   pub this : Own d n l
   pub that : Own d m r
   pub blasBytes : length (l .blases) ≡ length (r .blases)
@@ -139,10 +145,11 @@ module _ (d : Sender) where
       bound z now h = c z .2
       bound z (old x) h = omega (arith, c z .1, o .below (c z .0) (old x) h)
 
-  alike-wrote : {i j n m : ℕ} {s : Structure → Bool} {ds : List ℕ} {l l′ r r′ : Lent} → Alike d i j l r → Order d n m l r → Wrote d n s ds l l′ → Wrote d m s ds r r′
-      → Own d n l′ → Own d m r′ → Alike d n m l′ r′
-  alike-wrote {i} {j} {n} {m} {s} {ds} {l} {l′} {r} {r′} v q w u a b =
+  alike-wrote : {C : Relation} {i j n m : ℕ} {s : Structure → Bool} {ds : List ℕ} {l l′ r r′ : Lent} → Alike C d i j l r → Order d n m l r
+      → Wrote d n s ds l l′ → Wrote d m s ds r r′ → C (l′ .counter) (r′ .counter) → Own d n l′ → Own d m r′ → Alike C d n m l′ r′
+  alike-wrote {C} {i} {j} {n} {m} {s} {ds} {l} {l′} {r} {r′} v q w u c a b =
       record {
+        counters = c;
         this = a;
         that = b;
         blasBytes = w .blasBytes ∙ v .blasBytes ∙ sym (u .blasBytes);
@@ -167,7 +174,7 @@ module _ (d : Sender) where
   -- ---- the Build at hand
 
   -- it takes a number above all
-  fresh : {i j : ℕ} {l r : Lent} → Alike d i j l r → ¬ (l .counter ≡ 0) → ¬ (r .counter ≡ 0) → Order d (l .counter) (r .counter) l r
+  fresh : {C : Relation} {i j : ℕ} {l r : Lent} → Alike C d i j l r → ¬ (l .counter ≡ 0) → ¬ (r .counter ≡ 0) → Order d (l .counter) (r .counter) l r
   fresh {l = l} {r = r} v a b now now h k = le-ltb (l .counter) (l .counter) (omega arith) ∙ sym (le-ltb (r .counter) (r .counter) (omega arith))
   fresh {l = l} {r = r} v a b now (old y) h k =
       le-ltb (l .counter) (numberIn l y) (omega (arith, v .this .below a (old y) k)) ∙ sym (le-ltb (r .counter) (numberIn r y) (omega (arith, v .that .below b (old y) k)))
@@ -183,9 +190,10 @@ module _ (d : Sender) where
       go z now h = o .below z (old none) refl
       go z (old x) h = o .below z (old x) h
 
-  settled : {n m : ℕ} {l r : Lent} → Alike d n m l r → Alike d 0 0 l r
-  settled {n} {m} {l} {r} v =
+  settled : {C : Relation} {n m : ℕ} {l r : Lent} → Alike C d n m l r → Alike C d 0 0 l r
+  settled {C} {n} {m} {l} {r} v =
       record {
+        counters = v .counters;
         this = own-settled (v .this);
         that = own-settled (v .that);
         blasBytes = v .blasBytes;
@@ -204,16 +212,32 @@ module _ (d : Sender) where
 
   -- ---- a state and itself, what is newer, and the other way round
 
-  pub alike-self : {l : Lent} → Own d 0 l → Alike d 0 0 l l
-  alike-self o =
-      record { this = o; that = o; blasBytes = refl; tlasBytes = refl; blases = λ b h. refl; tlases = λ t h. refl; lists = λ t h. refl; order = λ x y h k. refl }
+  pub alike-self : {C : Relation} {l : Lent} → C (l .counter) (l .counter) → Own d 0 l → Alike C d 0 0 l l
+  alike-self c o =
+      record { counters = c; this = o; that = o; blasBytes = refl; tlasBytes = refl; blases = λ b h. refl; tlases = λ t h. refl; lists = λ t h. refl; order = λ x y h k. refl }
 
-  pub alike-newer : {n m : ℕ} {l r : Lent} → Alike d n m l r → SameNewer d l r
+  -- with another relation of the counters
+  pub alike-with : {C C′ : Relation} {n m : ℕ} {l r : Lent} → C′ (l .counter) (r .counter) → Alike C d n m l r → Alike C′ d n m l r
+  alike-with c v =
+      record {
+        counters = c;
+        this = v .this;
+        that = v .that;
+        blasBytes = v .blasBytes;
+        tlasBytes = v .tlasBytes;
+        blases = v .blases;
+        tlases = v .tlases;
+        lists = v .lists;
+        order = v .order;
+      }
+
+  pub alike-newer : {C : Relation} {n m : ℕ} {l r : Lent} → Alike C d n m l r → SameNewer d l r
   alike-newer v x y h k = v .order (old (some y)) (old (some x)) k h
 
-  pub alike-sym : {n m : ℕ} {l r : Lent} → Alike d n m l r → Alike d m n r l
+  pub alike-sym : {C : Relation} {n m : ℕ} {l r : Lent} → Alike C d n m l r → Alike (λ a b. C b a) d m n r l
   alike-sym v =
       record {
+        counters = v .counters;
         this = v .that;
         that = v .this;
         blasBytes = sym (v .blasBytes);
@@ -263,22 +287,28 @@ module _ (d : Sender) where
 abbrev tooLong : Package → Option Cause
 tooLong p = causeWhen (ltb mostDependencies (length (p .dependencies))) (bare 4)
 
-data Met (c d : Option Cause) : Type 0 where
-  same : c ≡ d → Met c d
-  this40 : c ≡ some (bare 40) → Met c d
-  that40 : d ≡ some (bare 40) → Met c d
+-- the first alone only where C lets its counter be 0 and the second's not
+data Met (C : Relation) (c d : Option Cause) : Type 0 where
+  same : c ≡ d → Met C c d
+  this40 : {n m : ℕ} → C n m → n ≡ 0 → ¬ (m ≡ 0) → c ≡ some (bare 40) → Met C c d
+  that40 : d ≡ some (bare 40) → Met C c d
 
-met-or : (c c′ e f : Option Cause) → c ≡ c′ → Met e f → Met (c orElse e) (c′ orElse f)
-met-or c c′ e f q h = subst (λ (x : Option Cause). Met (c orElse e) (x orElse f)) q (go c)
+met-or : {C : Relation} (c c′ e f : Option Cause) → c ≡ c′ → Met C e f → Met C (c orElse e) (c′ orElse f)
+met-or {C} c c′ e f q h = subst (λ (x : Option Cause). Met C (c orElse e) (x orElse f)) q (go c)
   where
-    go : (c : Option Cause) → Met (c orElse e) (c orElse f)
+    go : (c : Option Cause) → Met C (c orElse e) (c orElse f)
     go none = h
     go (some x) = same refl
 
-met-40 : (a b : Bool) (e f : Option Cause) → e ≡ f → Met (causeWhen a (bare 40) orElse e) (causeWhen b (bare 40) orElse f)
-met-40 true b e f q = this40 refl
-met-40 false true e f q = that40 refl
-met-40 false false e f q = same q
+met-40 : {C : Relation} (n m : ℕ) (e f : Option Cause) → C n m → e ≡ f
+    → Met C (causeWhen (eqb n 0) (bare 40) orElse e) (causeWhen (eqb m 0) (bare 40) orElse f)
+met-40 {C} n m e f c q = go (eqb n 0) (eqb m 0) refl refl
+  where
+    go : (a b : Bool) → eqb n 0 ≡ a → eqb m 0 ≡ b → Met C (causeWhen a (bare 40) orElse e) (causeWhen b (bare 40) orElse f)
+    go true true x y = same refl
+    go true false x y = this40 c (eqb-true n 0 x) (eqb-false m 0 y) refl
+    go false true x y = that40 refl
+    go false false x y = same q
 
 first-same : {A : Type 0} (f g : A → Option Cause) (t : A → Bool) → ((x : A) → t x ≡ true → f x ≡ g x) → (xs : List A) → every t xs ≡ true → first f xs ≡ first g xs
 first-same f g t k [] e = refl
@@ -311,43 +341,57 @@ used-inside : (l : Lent) (t : ℕ) → before l (useTlas t) ≡ none → t < tla
 unfolding before
 used-inside l t e = inside (tlasCount l) t e
 
+-- ---- C is kept where both counters step, or where the first alone does
+
+abbrev pub BothStep : Relation → Type 0
+BothStep C = (n m : ℕ) → C n m → ¬ (n ≡ 0) → ¬ (m ≡ 0) → n < 2 ^ 64 → m < 2 ^ 64 → C ((n + 1) % 2 ^ 64) ((m + 1) % 2 ^ 64)
+
+abbrev pub FirstSteps : Relation → Type 0
+FirstSteps C = (n m : ℕ) → C n m → ¬ (n ≡ 0) → n < 2 ^ 64 → C ((n + 1) % 2 ^ 64) m
+
+-- an action of another's: it builds nothing of the sender's; what it lists or uses is no matter
+abbrev pub elsewhere : Sender → Action → Bool
+elsewhere d (build bs ps) = every (λ b. not (d .blas b)) bs && every (λ p. not (d .tlas (p .tlas))) ps
+elsewhere d (useTlas t) = true
+elsewhere d malformed = true
+
 -- ---- outcomes: the same answer and states that are alike, or one of them meets 40
 
-pub data Both (d : Sender) : Outcome → Outcome → Type 0 where
-  both : {a : Answer} {l r : Lent} → Alike d 0 0 l r → Both d (a leaving l) (a leaving r)
-  first40 : {i : ℕ} {l : Lent} {o : Outcome} → Both d (refused i (bare 40) leaving l) o
-  second40 : {i : ℕ} {r : Lent} {o : Outcome} → Both d o (refused i (bare 40) leaving r)
+pub data Both (C : Relation) (d : Sender) : Outcome → Outcome → Type 0 where
+  both : {a : Answer} {l r : Lent} → Alike C d 0 0 l r → Both C d (a leaving l) (a leaving r)
+  first40 : {n m i : ℕ} {l : Lent} {o : Outcome} → C n m → n ≡ 0 → ¬ (m ≡ 0) → Both C d (refused i (bare 40) leaving l) o
+  second40 : {i : ℕ} {r : Lent} {o : Outcome} → Both C d o (refused i (bare 40) leaving r)
 
-module _ (d : Sender) where
-  both-unless : {l r : Lent} {o q : Outcome} (c e : Option Cause) → Met c e → Alike d 0 0 l r → (c ≡ none → e ≡ none → Both d o q)
-      → Both d (unlessCause c l o) (unlessCause e r q)
-  both-unless {l} {r} {o} {q} c e (same p) v k = subst (λ (x : Option Cause). Both d (unlessCause c l o) (unlessCause x r q)) p (go c refl)
+module _ (C : Relation) (d : Sender) where
+  both-unless : {l r : Lent} {o q : Outcome} (c e : Option Cause) → Met C c e → Alike C d 0 0 l r → (c ≡ none → e ≡ none → Both C d o q)
+      → Both C d (unlessCause c l o) (unlessCause e r q)
+  both-unless {l} {r} {o} {q} c e (same p) v k = subst (λ (x : Option Cause). Both C d (unlessCause c l o) (unlessCause x r q)) p (go c refl)
     where
-      go : (x : Option Cause) → c ≡ x → Both d (unlessCause x l o) (unlessCause x r q)
+      go : (x : Option Cause) → c ≡ x → Both C d (unlessCause x l o) (unlessCause x r q)
       go none a = k a (sym p ∙ a)
       go (some x) a = both v
-  both-unless c e (this40 p) v k = rw p first40
+  both-unless c e (this40 a z w p) v k = rw p (first40 a z w)
   both-unless c e (that40 p) v k = rw p second40
 
-  both-then : {o q : Outcome} (f g : Lent → Outcome) → Both d o q → ((l r : Lent) → Alike d 0 0 l r → Both d (f l) (g r)) → Both d (o followedBy f) (q followedBy g)
+  both-then : {o q : Outcome} (f g : Lent → Outcome) → Both C d o q → ((l r : Lent) → Alike C d 0 0 l r → Both C d (f l) (g r)) → Both C d (o followedBy f) (q followedBy g)
   both-then f g (both {a = accepted} {l = l} {r = r} v) k = k l r v
   both-then f g (both {a = refused i c} v) k = both v
-  both-then f g first40 k = first40
+  both-then f g (first40 c z w) k = first40 c z w
   both-then f g second40 k = second40
 
-  both-later : {o q : Outcome} (n : ℕ) → Both d o q → Both d (later n o) (later n q)
+  both-later : {o q : Outcome} (n : ℕ) → Both C d o q → Both C d (later n o) (later n q)
   both-later n (both {a = accepted} v) = both v
   both-later n (both {a = refused i c} v) = both v
-  both-later n first40 = first40
+  both-later n (first40 c z w) = first40 c z w
   both-later n second40 = second40
 
   -- ---- an action of the sender's
 
-  module _ {n m : ℕ} {l r : Lent} (v : Alike d n m l r) where
+  module _ {n m : ℕ} {l r : Lent} (v : Alike C d n m l r) where
     zero-alike : (x : Structure) → ownStructure d x ≡ true → eqb (numberOf l x) 0 ≡ eqb (numberOf r x) 0
     zero-alike x h = zero-same (numberOf l x) (numberOf r x) (v .order (old none) (old (some x)) refl h)
 
-    before-alike : (a : Action) → ownAction d a ≡ true → Met (before l a) (before r a)
+    before-alike : (a : Action) → ownAction d a ≡ true → Met C (before l a) (before r a)
     unfolding before
     before-alike malformed e = same refl
     before-alike (useTlas t) e = same (λ i. outside (v .tlasBytes i / tlasSize) t)
@@ -356,7 +400,7 @@ module _ (d : Sender) where
         (met-or (first (mentionBlas l) bs) (first (mentionBlas r) bs) _ _ (λ i. first (λ b. outside (v .blasBytes i / blasSize) b) bs)
         (met-or (first (mentionPackage l) ps) (first (mentionPackage r) ps) _ _
         (λ i. first (λ p. outside (v .tlasBytes i / tlasSize) (p .tlas) orElse first (λ b. outside (v .blasBytes i / blasSize) b) (p .dependencies)) ps)
-        (met-40 (eqb (l .counter) 0) (eqb (r .counter) 0) (first (compacted l) bs) (first (compacted r) bs)
+        (met-40 (l .counter) (r .counter) (first (compacted l) bs) (first (compacted r) bs) (v .counters)
         (first-same (compacted l) (compacted r) (d .blas) state bs (and-true (every (d .blas) bs) _ e .0)))))
       where
         state : (b : ℕ) → d .blas b ≡ true → compacted l b ≡ compacted r b
@@ -378,9 +422,9 @@ module _ (d : Sender) where
             orElse causeWhen (v .order (old (some (aTlas t))) (old (some (aBlas b))) h g i) (cause 44 b t 0)
             orElse causeWhen (eqb (v .blases b g i .destroyed) 1) (cause 21 b 0 0)
 
-  build-tlases : {n m : ℕ} {l r : Lent} → Alike d n m l r → n < 2 ^ 64 → m < 2 ^ 64 → (ps : List Package) → every (ownPackage d) ps ≡ true
+  build-tlases : {n m : ℕ} {l r : Lent} → Alike C d n m l r → n < 2 ^ 64 → m < 2 ^ 64 → (ps : List Package) → every (ownPackage d) ps ≡ true
       → first tooLong ps ≡ none → first (mentionPackage l) ps ≡ none → first (mentionPackage r) ps ≡ none
-      → Both d (buildTlases n ps l) (buildTlases m ps r)
+      → Both C d (buildTlases n ps l) (buildTlases m ps r)
   unfolding buildTlases
   build-tlases v f g [] e s x y = both (settled d v)
   build-tlases {n} {m} {l} {r} v f g (p ∷ ps) e s x y =
@@ -395,51 +439,49 @@ module _ (d : Sender) where
       both-unless (first (unnumbered l (p .tlas)) (p .dependencies)) (first (unnumbered r (p .tlas)) (p .dependencies))
       (same (unnumbered-alike v (p .tlas) (p .dependencies) (ids .1))) (settled d v)
       (λ a b. build-tlases
-      (alike-wrote d v (v .order) w u (own-tlas d (v .this) n p f (here .0) most (ids .1) w) (own-tlas d (v .that) m p g (there .0) most (ids .1) u))
+      (alike-wrote d v (v .order) w u (v .counters) (own-tlas d (v .this) n p f (here .0) most (ids .1) w) (own-tlas d (v .that) m p g (there .0) most (ids .1) u))
       f g ps (own .1) (short .1) (mention-kept n p l ps (here .1)) (mention-kept m p r ps (there .1)))
 
-  act-alike : {l r : Lent} → Alike d 0 0 l r → (a : Action) → ownAction d a ≡ true → before l a ≡ none → before r a ≡ none → Both d (act l a) (act r a)
-  unfolding act
-  act-alike v malformed e x y = both v
-  act-alike {l} {r} v (useTlas t) e x y =
-      both-unless (unusable l t) (unusable r t) (same (unusable-alike v t (used-inside l t x) e)) v (λ a b. both v)
-  act-alike {l} {r} v (build bs ps) e x y =
-      let f = fit l bs ps x in
-      let g = fit r bs ps y in
-      let a = eqb-false (l .counter) 0 (f .counts) in
-      let b = eqb-false (r .counter) 0 (g .counts) in
-      let w = wrote-blases d (v .this) bs (f .blases) in
-      let u = wrote-blases d (v .that) bs (g .blases) in
-      build-tlases
-      (alike-wrote d v (fresh d v a b) w u (own-blases d (v .this) bs (f .blases) (omega arith) a w) (own-blases d (v .that) bs (g .blases) (omega arith) b u))
-      (v .this .sound .fits) (v .that .sound .fits) ps (and-true (every (d .blas) bs) _ e .1) (f .short) (mention-built bs l ps (f .tlases)) (mention-built bs r ps (g .tlases))
+  module _ (next : BothStep C) where
+    act-alike : {l r : Lent} → Alike C d 0 0 l r → (a : Action) → ownAction d a ≡ true → before l a ≡ none → before r a ≡ none → Both C d (act l a) (act r a)
+    unfolding act
+    act-alike v malformed e x y = both v
+    act-alike {l} {r} v (useTlas t) e x y =
+        both-unless (unusable l t) (unusable r t) (same (unusable-alike v t (used-inside l t x) e)) v (λ a b. both v)
+    act-alike {l} {r} v (build bs ps) e x y =
+        let f = fit l bs ps x in
+        let g = fit r bs ps y in
+        let a = eqb-false (l .counter) 0 (f .counts) in
+        let b = eqb-false (r .counter) 0 (g .counts) in
+        let w = wrote-blases d (v .this) bs (f .blases) in
+        let u = wrote-blases d (v .that) bs (g .blases) in
+        build-tlases
+        (alike-wrote d v (fresh d v a b) w u (next (l .counter) (r .counter) (v .counters) a b (v .this .sound .fits) (v .that .sound .fits)) (own-blases d (v .this) bs (f .blases) (omega arith) a w) (own-blases d (v .that) bs (g .blases) (omega arith) b u))
+        (v .this .sound .fits) (v .that .sound .fits) ps (and-true (every (d .blas) bs) _ e .1) (f .short) (mention-built bs l ps (f .tlases)) (mention-built bs r ps (g .tlases))
 
-  pub step-alike : {l r : Lent} → Alike d 0 0 l r → (a : Action) → ownAction d a ≡ true → Both d (step l a) (step r a)
-  unfolding step
-  step-alike {l} {r} v a e = both-unless (before l a) (before r a) (before-alike v a e) v (act-alike v a e)
+    pub step-alike : {l r : Lent} → Alike C d 0 0 l r → (a : Action) → ownAction d a ≡ true → Both C d (step l a) (step r a)
+    unfolding step
+    step-alike {l} {r} v a e = both-unless (before l a) (before r a) (before-alike v a e) v (act-alike v a e)
 
-  pub run-alike : {l r : Lent} → Alike d 0 0 l r → (acts : List Action) → every (ownAction d) acts ≡ true → Both d (run l acts) (run r acts)
-  unfolding run
-  run-alike v [] e = both v
-  run-alike {l} {r} v (a ∷ more) e =
-      let own = and-true (ownAction d a) _ e in
-      both-then (λ q. later 1 (run q more)) (λ q. later 1 (run q more)) (step-alike v a (own .0)) (λ p q w. both-later 1 (run-alike w more (own .1)))
+    pub run-alike : {l r : Lent} → Alike C d 0 0 l r → (acts : List Action) → every (ownAction d) acts ≡ true → Both C d (run l acts) (run r acts)
+    unfolding run
+    run-alike v [] e = both v
+    run-alike {l} {r} v (a ∷ more) e =
+        let own = and-true (ownAction d a) _ e in
+        both-then (λ q. later 1 (run q more)) (λ q. later 1 (run q more)) (step-alike v a (own .0)) (λ p q w. both-later 1 (run-alike w more (own .1)))
+
+    pub submission-alike : {l r : Lent} → Alike C d 0 0 l r → (acts : List Action) → every (ownAction d) acts ≡ true → Both C d (submission l acts) (submission r acts)
+    submission-alike {l} {r} v acts e = rw (submission-run l acts (v .this .sound), submission-run r acts (v .that .sound)) (run-alike v acts e)
 
   -- ---- an action of another's
 
-  -- it builds nothing of the sender's; what it lists or uses is no matter
-  abbrev pub elsewhere : Action → Bool
-  elsewhere (build bs ps) = every (λ b. not (d .blas b)) bs && every (λ p. not (d .tlas (p .tlas))) ps
-  elsewhere (useTlas t) = true
-  elsewhere malformed = true
-
   -- a write of nothing of the sender's
-  alike-none : {l l′ r : Lent} → Alike d 0 0 l r → Wrote d 0 (λ x. false) [] l l′ → Own d 0 l′ → Alike d 0 0 l′ r
-  alike-none v w o = alike-wrote d v (v .order) w (record { blases = λ b h. refl; tlases = λ t h. refl; lists = λ t h. refl; blasBytes = refl; tlasBytes = refl }) o (v .that)
+  alike-none : {l l′ r : Lent} → Alike C d 0 0 l r → Wrote d 0 (λ x. false) [] l l′ → C (l′ .counter) (r .counter) → Own d 0 l′ → Alike C d 0 0 l′ r
+  alike-none v w c o = alike-wrote d v (v .order) w (record { blases = λ b h. refl; tlases = λ t h. refl; lists = λ t h. refl; blasBytes = refl; tlasBytes = refl }) c o (v .that)
 
-  other-tlases : {l r : Lent} → Alike d 0 0 l r → (n : ℕ) → n < 2 ^ 64 → (ps : List Package) → every (λ p. not (d .tlas (p .tlas))) ps ≡ true
+  other-tlases : {l r : Lent} → Alike C d 0 0 l r → (n : ℕ) → n < 2 ^ 64 → (ps : List Package) → every (λ p. not (d .tlas (p .tlas))) ps ≡ true
       → first tooLong ps ≡ none → first (mentionPackage l) ps ≡ none
-      → Alike d 0 0 (left (buildTlases n ps l)) r
+      → Alike C d 0 0 (left (buildTlases n ps l)) r
   unfolding buildTlases
   other-tlases v n f [] e s x = v
   other-tlases {l} {r} v n f (p ∷ ps) e s x =
@@ -448,44 +490,40 @@ module _ (d : Sender) where
       let here = or-none (mentionPackage l p) _ x in
       let most = within mostDependencies (length (p .dependencies)) (bare 4) (short .0) in
       let w = wrote-none d (wrote-tlas d (v .this) n p f (here .0) most) (apart (not-true (d .tlas (p .tlas)) (miss .0))) in
-      left-unless (λ q. Alike d 0 0 q r) (first (unnumbered l (p .tlas)) (p .dependencies)) l (buildTlases n ps (buildTlas n p l)) v
-      (other-tlases (alike-none v w (own-tlas d (v .this) n p f (here .0) most refl w)) n f ps (miss .1) (short .1) (mention-kept n p l ps (here .1)))
+      left-unless (λ q. Alike C d 0 0 q r) (first (unnumbered l (p .tlas)) (p .dependencies)) l (buildTlases n ps (buildTlas n p l)) v
+      (other-tlases (alike-none v w (v .counters) (own-tlas d (v .this) n p f (here .0) most refl w)) n f ps (miss .1) (short .1) (mention-kept n p l ps (here .1)))
     where
       apart : d .tlas (p .tlas) ≡ false → (x : Structure) → ownStructure d x ≡ true → tlasIs d (p .tlas) x ≡ false
       apart k (aBlas b) h = refl
       apart k (aTlas t) h = other-id (d .tlas) t (p .tlas) h k
 
-  other-step : {l r : Lent} → Alike d 0 0 l r → (a : Action) → elsewhere a ≡ true → Alike d 0 0 (left (step l a)) r
-  unfolding step act
-  other-step {l} {r} v a e = go a e (before l a) refl
-    where
-      apart : (bs : List ℕ) → every (λ b. not (d .blas b)) bs ≡ true → (x : Structure) → ownStructure d x ≡ true → blasesIn d bs x ≡ false
-      apart bs k (aBlas b) h = not-among (d .blas) bs k b h
-      apart bs k (aTlas t) h = refl
+  module _ (onward : FirstSteps C) where
+    other-step : {l r : Lent} → Alike C d 0 0 l r → (a : Action) → elsewhere d a ≡ true → Alike C d 0 0 (left (step l a)) r
+    unfolding step act
+    other-step {l} {r} v a e = go a e (before l a) refl
+      where
+        apart : (bs : List ℕ) → every (λ b. not (d .blas b)) bs ≡ true → (x : Structure) → ownStructure d x ≡ true → blasesIn d bs x ≡ false
+        apart bs k (aBlas b) h = not-among (d .blas) bs k b h
+        apart bs k (aTlas t) h = refl
 
-      go : (a : Action) → elsewhere a ≡ true → (c : Option Cause) → before l a ≡ c → Alike d 0 0 (left (unlessCause c l (act l a))) r
-      go a e (some c) q = v
-      go malformed e none q = v
-      go (useTlas t) e none q = left-unless (λ x. Alike d 0 0 x r) (unusable l t) l (accepted leaving l) v v
-      go (build bs ps) e none q =
-          let f = fit l bs ps q in
-          let z = eqb-false (l .counter) 0 (f .counts) in
-          let miss = and-true (every (λ b. not (d .blas b)) bs) _ e in
-          let w = wrote-none d (wrote-blases d (v .this) bs (f .blases)) (apart bs (miss .0)) in
-          other-tlases (alike-none v w (own-blases d (v .this) bs (f .blases) (omega arith) z w))
-          (l .counter) (v .this .sound .fits) ps (miss .1) (f .short) (mention-built bs l ps (f .tlases))
+        go : (a : Action) → elsewhere d a ≡ true → (c : Option Cause) → before l a ≡ c → Alike C d 0 0 (left (unlessCause c l (act l a))) r
+        go a e (some c) q = v
+        go malformed e none q = v
+        go (useTlas t) e none q = left-unless (λ x. Alike C d 0 0 x r) (unusable l t) l (accepted leaving l) v v
+        go (build bs ps) e none q =
+            let f = fit l bs ps q in
+            let z = eqb-false (l .counter) 0 (f .counts) in
+            let miss = and-true (every (λ b. not (d .blas b)) bs) _ e in
+            let w = wrote-none d (wrote-blases d (v .this) bs (f .blases)) (apart bs (miss .0)) in
+            other-tlases (alike-none v w (onward (l .counter) (r .counter) (v .counters) z (v .this .sound .fits)) (own-blases d (v .this) bs (f .blases) (omega arith) z w))
+            (l .counter) (v .this .sound .fits) ps (miss .1) (f .short) (mention-built bs l ps (f .tlases))
 
-  pub run-elsewhere : {l r : Lent} → Alike d 0 0 l r → (acts : List Action) → every elsewhere acts ≡ true → Alike d 0 0 (left (run l acts)) r
-  unfolding run
-  run-elsewhere v [] e = v
-  run-elsewhere {l} {r} v (a ∷ more) e =
-      let own = and-true (elsewhere a) _ e in
-      left-then (λ x. Alike d 0 0 x r) (step l a) _ (other-step v a (own .0)) (λ q g. rw left-later (run-elsewhere g more (own .1)))
+    pub run-elsewhere : {l r : Lent} → Alike C d 0 0 l r → (acts : List Action) → every (elsewhere d) acts ≡ true → Alike C d 0 0 (left (run l acts)) r
+    unfolding run
+    run-elsewhere v [] e = v
+    run-elsewhere {l} {r} v (a ∷ more) e =
+        let own = and-true (elsewhere d a) _ e in
+        left-then (λ x. Alike C d 0 0 x r) (step l a) _ (other-step v a (own .0)) (λ q g. rw left-later (run-elsewhere g more (own .1)))
 
-  -- ---- submissions
-
-  pub submission-alike : {l r : Lent} → Alike d 0 0 l r → (acts : List Action) → every (ownAction d) acts ≡ true → Both d (submission l acts) (submission r acts)
-  submission-alike {l} {r} v acts e = rw (submission-run l acts (v .this .sound), submission-run r acts (v .that .sound)) (run-alike v acts e)
-
-  pub submission-elsewhere : {l r : Lent} → Alike d 0 0 l r → (acts : List Action) → every elsewhere acts ≡ true → Alike d 0 0 (left (submission l acts)) r
-  submission-elsewhere {l} {r} v acts e = rw (submission-run l acts (v .this .sound)) (run-elsewhere v acts e)
+    pub submission-elsewhere : {l r : Lent} → Alike C d 0 0 l r → (acts : List Action) → every (elsewhere d) acts ≡ true → Alike C d 0 0 (left (submission l acts)) r
+    submission-elsewhere {l} {r} v acts e = rw (submission-run l acts (v .this .sound)) (run-elsewhere v acts e)

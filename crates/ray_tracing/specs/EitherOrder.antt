@@ -54,11 +54,6 @@ pub record InOrder (R : Routine) (n : ℕ) (x : Buffers) (p q : Piece) : Type 0 
   pub callFirst : R n x p first
   pub callSecond : R (first .counter) (first .left) q second
 
--- "neither order meets 40", of the list p, which is first in o and second in o′: the other list's own 40 is no matter to it
-pub record No40 {R : Routine} {n : ℕ} {x : Buffers} {p q : Piece} (o : InOrder R n x p q) (o′ : InOrder R n x q p) : Type 0 where
-  pub first : ¬ (o .first .numbers .number ≡ 40)
-  pub second : ¬ (o′ .second .numbers .number ≡ 40)
-
 -- ---- "newer"
 
 -- "plants and houses", by id
@@ -109,7 +104,7 @@ pub record SameInEither
     -- and after both submissions
     pub after : SameNewer d (leftBy (o .second)) (leftBy (o′ .second))
 
--- "either order gives each list the same"
+-- "either order gives each list the same", where "neither order meets 40": asked of a list where it comes second alone
 pub record EitherOrder (R : Routine) (n : ℕ) (x : Buffers) (d e : Sender) (p q : Piece) : Type 0 where
-  pub one : (o : InOrder R n x p q) (o′ : InOrder R n x q p) → No40 o o′ → SameInEither d o o′
-  pub other : (o : InOrder R n x p q) (o′ : InOrder R n x q p) → No40 o′ o → SameInEither e o′ o
+  pub one : (o : InOrder R n x p q) (o′ : InOrder R n x q p) → ¬ (o′ .second .numbers .number ≡ 40) → SameInEither d o o′
+  pub other : (o : InOrder R n x p q) (o′ : InOrder R n x q p) → ¬ (o .second .numbers .number ≡ 40) → SameInEither e o′ o
