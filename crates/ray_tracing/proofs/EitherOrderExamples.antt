@@ -9,20 +9,20 @@ use lib.ListN.{length, replicate}
 use lib.Dec.{eqb, ltb, lit<}
 use borrow.Author.Tests.{eqb-true}
 use Rattle.wire.specs.Wire.{leAt, leBytes}
-use Rattle.ray_tracing.specs.declared.CommandIndices.{CommandIndices}
+use Rattle.ray_tracing.specs.declared.Validated.{Validated}
 use Rattle.ray_tracing.specs.declared.Submitted.{Submitted}
 use Rattle.ray_tracing.specs.declared.Submitted.the-variants as submitted
 use Rattle.ray_tracing.specs.declared.ValidateAsActionsError.the-variants as error
 use Rattle.ray_tracing.specs.Guard.{refuse}
 use Rattle.ray_tracing.specs.Reading.{judgeFields, judgeRecords, judgeLent}
 use Rattle.ray_tracing.specs.Causes.{cause, bare, unbuiltInUse}
-use Rattle.ray_tracing.specs.Submission.{Lent, Piece, Answer, accepted, refused, Outcome, _leaving_, left, blasCount, tlasCount, blas, tlas, dependenciesOf, blasIn, tlasIn, listIn, judge, judgeLists, packagesAt, packagesLent, action, decodeCells, decode, before, builtBlas, builtBlases, builtTlas, buildTlases, act, step, run, submission, Buffers, lentWith, Numbers, Submits, Shown, shown}
+use Rattle.ray_tracing.specs.Submission.{Lent, Piece, Answer, accepted, refused, Outcome, _leaving_, left, blasCount, tlasCount, blas, tlas, dependenciesOf, blasIn, tlasIn, listIn, judge, judgeLists, packagesAt, packagesLent, action, decodeCells, decode, before, builtBlas, builtBlases, builtTlas, buildTlases, act, step, run, submission, Buffers, lentWith, Numbers, Submits, Shown, shown, numbersOf}
 use Rattle.ray_tracing.specs.History.{every, among}
 use Rattle.ray_tracing.specs.Claim.{SubmitShows, ValidateShows, NumbersBelow}
-use Rattle.ray_tracing.specs.EitherOrder.{Sender, ShareNone, ownAction, Sends, TwoSenders, InOrder, Structure, aBlas, aTlas, newer, metBy, leftBy, SameInEither}
+use Rattle.ray_tracing.specs.EitherOrder.{Sender, ShareNone, ownAction, Sends, TwoSenders, InOrder, Structure, aBlas, aTlas, newer, metBy, SameInEither}
 use Rattle.ray_tracing.proofs.Allowed.{and-true}
 use Rattle.ray_tracing.proofs.DemandExamples.{blasBytes, tlasBytes, piece}
-use Rattle.ray_tracing.proofs.MarkBuiltExamples.{indices}
+use Rattle.ray_tracing.proofs.MarkBuiltExamples.{indices, fine}
 use Rattle.ray_tracing.proofs.Views.{not-among}
 use Rattle.ray_tracing.proofs.EitherOrder.{either-order-of-submit, either-order-of-validate}
 
@@ -170,31 +170,29 @@ second-then-first =
     }
 
 -- as calls of `validate_acceleration_structure_actions`, and so of `zakvind_submit`
+abbrev validates : (n m : ℕ) (x y : Buffers) (p : Piece) (v : Validated)
+    → shows (numbersOf v) m y ≡ shown (submission (lentWith n x) (decode p)) → ValidateShows n x p (shows (numbersOf v) m y)
+validates n m x y p v e =
+    record {
+      indices = indices n;
+      stepped = indices m;
+      answer = v;
+      called = record { shows = e; unmoved = refl };
+      lent = refl;
+      numbers = refl;
+      counter = refl;
+    }
+
+abbrev validated-44 : Validated
+validated-44 = record { number = 44; action = 4; first = 1; second = 0 }
+
 abbrev validated-first : InOrder ValidateShows 5 start list-1 list-2
 validated-first =
     record {
       first = shows newer-44 7 left-1;
       second = shows all-accepted 11 left-12;
-      callFirst =
-          record {
-            indices = indices 5;
-            stepped = indices 7;
-            answer = record { number = 44; action = 4; first = 1; second = 0 };
-            called = record { shows = ap shown (submits .0); unmoved = refl };
-            lent = refl;
-            numbers = refl;
-            counter = refl;
-          };
-      callSecond =
-          record {
-            indices = indices 7;
-            stepped = indices 11;
-            answer = record { number = 0; action = 0; first = 0; second = 0 };
-            called = record { shows = ap shown (submits .1 .0); unmoved = refl };
-            lent = refl;
-            numbers = refl;
-            counter = refl;
-          };
+      callFirst = validates 5 7 start left-1 list-1 validated-44 (ap shown (submits .0));
+      callSecond = validates 7 11 left-1 left-12 list-2 fine (ap shown (submits .1 .0));
     }
 
 abbrev validated-second : InOrder ValidateShows 5 start list-2 list-1
@@ -202,26 +200,8 @@ validated-second =
     record {
       first = shows all-accepted 9 left-2;
       second = shows newer-44 11 left-21;
-      callFirst =
-          record {
-            indices = indices 5;
-            stepped = indices 9;
-            answer = record { number = 0; action = 0; first = 0; second = 0 };
-            called = record { shows = ap shown (submits .1 .1 .0); unmoved = refl };
-            lent = refl;
-            numbers = refl;
-            counter = refl;
-          };
-      callSecond =
-          record {
-            indices = indices 9;
-            stepped = indices 11;
-            answer = record { number = 44; action = 4; first = 1; second = 0 };
-            called = record { shows = ap shown (submits .1 .1 .1); unmoved = refl };
-            lent = refl;
-            numbers = refl;
-            counter = refl;
-          };
+      callFirst = validates 5 9 start left-2 list-2 fine (ap shown (submits .1 .1 .0));
+      callSecond = validates 9 11 left-2 left-21 list-1 validated-44 (ap shown (submits .1 .1 .1));
     }
 
 -- ---- the theorem, applied: neither meets 40

@@ -191,7 +191,7 @@ tables-7 = demand .tables (piece marked-7 lists-7 ∷ piece second-7 [] ∷ []) 
 abbrev pub indices : ℕ → CommandIndices
 indices n = record { «active_submission_index» = 9; «next_acceleration_structure_build_command_index» = n }
 
-abbrev fine : Validated
+abbrev pub fine : Validated
 fine = record { number = 0; action = 0; first = 0; second = 0 }
 
 called-7 : Validates (indices 5) (buffers start) (piece marked-7 lists-7) fine (indices 6) (buffers then-7)
