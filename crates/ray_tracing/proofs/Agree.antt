@@ -3,24 +3,23 @@
 use Prim.Native.Nat.{ℕ, suc, ◌+◌, ◌*◌, ◌/◌, ◌%◌, ◌^◌, ◌<◌, ◌≤◌}
 use native.Mathlib.Nat.{mod-add-mod, mod-eq_of_lt}
 use native.Mathlib.Omega.{arith}
-use mathlib.Core.Path.{◌≡◌, refl, sym, ap, ◌∙◌, subst}
+use mathlib.Core.Path.{◌≡◌, refl, sym, ap, ◌∙◌}
 use mathlib.Core.Bool.{Bool, true, false, ◌&&◌, ◌||◌, not}
 use mathlib.Core.Option
 use mathlib.Core.Option.{Option, none, some}
 use mathlib.Core.List.{List, [], ◌∷◌}
-use lib.ListN.{length, take, drop, get_or, length-drop}
+use lib.ListN.{length, drop, get_or, length-drop}
 use lib.Seq.{length-take-le}
 use lib.Dec.{eqb, leb, ltb}
 use borrow.Author.Tests.{eqb-false, ne_eqb}
 use Rattle.ray_tracing.specs.declared.Blas.{Blas}
-use Rattle.ray_tracing.specs.declared.Tlas.{Tlas}
 use Rattle.ray_tracing.specs.Layout.{size}
 use Rattle.ray_tracing.specs.Causes.{Cause, cause}
-use Rattle.ray_tracing.specs.Submission.{Lent, Package, Action, build, use_tlas, malformed, Outcome, accepted, refused, ◌leaving◌, left, ◌followed_by◌, later, unless_cause, cause_when, ◌or_else◌, first, blas_count, tlas_count, blas_in, tlas_in, list_in, blas, tlas, dependencies_of, mention_package, compacted, before, build_blases, build_tlases, unusable_blas, unusable, act, step, run}
-use Rattle.ray_tracing.specs.History.{every, while_holds, among, Built, next, blas_number, blas_state, known, listed, cell_listed, Latest, built_with, latest, cell, blas_by, tlas_by, usable, usable_blas, allowed, Told, passed, stopped, log, told, and_then, lists_known, acts, tell_action, tell_actions}
+use Rattle.ray_tracing.specs.Submission.{Lent, Package, Action, build, use_tlas, malformed, Outcome, accepted, refused, ◌leaving◌, left, ◌followed_by◌, later, unless_cause, cause_when, tlas_count, blas_in, list_in, blas, tlas, dependencies_of, mention_package, compacted, before, build_blases, build_tlases, unusable_blas, unusable, act, step, run}
+use Rattle.ray_tracing.specs.History.{every, while_holds, among, Built, next, blas_number, blas_state, known, listed, cell_listed, built_with, latest, blas_by, tlas_by, usable, allowed, Told, passed, stopped, log, told, and_then, lists_known, acts, tell_action, tell_actions}
 use Rattle.ray_tracing.specs.Claim.{ByHistory}
 use Rattle.ray_tracing.proofs.Tables.{blas_with, tlas_with}
-use Rattle.ray_tracing.proofs.Firsts.{or_none, on_none, first_while, first-among, is_none, is_none-on, is_none_on_or, is_none-first, not_ltb}
+use Rattle.ray_tracing.proofs.Firsts.{on_none, first_while, first-among, is_none, is_none-on, is_none_on_or, is_none-first, not_ltb}
 use Rattle.ray_tracing.proofs.Sound.{Sound, Fit, fit, sound_blases, blases-length, mention-built}
 use Rattle.ray_tracing.proofs.Builds.{blas_if, blas-built, tlas_if, put, Put, put_is, Is, tlases_is}
 use Rattle.ray_tracing.proofs.Allowed.{before-allowed}

@@ -4,14 +4,14 @@ use Prim.Native.Nat.{ℕ, zero, suc, ◌<◌}
 use native.Mathlib.Omega.{arith}
 use mathlib.Core.Path.{◌≡◌, refl, sym}
 use mathlib.Core.Bool.{Bool, true, false}
-use mathlib.Core.List.{List, [], ◌∷◌, ◌++◌}
+use mathlib.Core.List.{[], ◌∷◌, ◌++◌}
 use lib.Dec.{lit<}
 use Rattle.wire.specs.Wire.{le_at, le_bytes}
 use Rattle.ray_tracing.specs.Causes.{cause, bare}
-use Rattle.ray_tracing.specs.Submission.{Lent, Piece, use_tlas, Outcome, accepted, refused, ◌leaving◌, blas_count, tlas_count, blas, tlas, blas_in, tlas_in, list_in, packages_at, packages_lent, action, decode_cells, decode, submission}
-use Rattle.ray_tracing.specs.History.{among, Built, latest, since, log, allowed, acts, tell_action, tell_actions, history}
+use Rattle.ray_tracing.specs.Submission.{Lent, accepted, refused, ◌leaving◌, blas_count, tlas_count, blas, tlas, blas_in, tlas_in, list_in, packages_at, packages_lent, action, decode_cells, decode, submission}
+use Rattle.ray_tracing.specs.History.{among, Built, allowed, acts, tell_action, tell_actions, history}
 use Rattle.ray_tracing.specs.Claim.{Each, Usable, NumbersBelow, ByHistory}
-use Rattle.ray_tracing.proofs.Outcomes.{OutcomeDemand, outcome_reached, outcome_sent, outcome_refused, OutcomeSent, outcome_call, no_outcome, OutcomeCalls}
+use Rattle.ray_tracing.proofs.Outcomes.{OutcomeDemand, outcome_reached, outcome_sent, outcome_refused, OutcomeSent, outcome_call, no_outcome}
 use Rattle.ray_tracing.proofs.DemandExamples.{lent, piece, lists_7, first_7, second_7, start, all}
 use Rattle.ray_tracing.proofs.Demand3.{demand_3}
 

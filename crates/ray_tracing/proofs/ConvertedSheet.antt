@@ -11,7 +11,6 @@ use lib.Seq.{drop-drop, take_at, take-add, take-suc}
 use Rattle.wire.specs.Wire.{le_at, le_bytes}
 use Rattle.wire.proofs.Laws.{le_bytes-at, length-le_bytes}
 use Rattle.ray_tracing.specs.declared.Version.{Version}
-use Rattle.ray_tracing.specs.declared.Version.TheVariants as version
 use Rattle.ray_tracing.specs.declared.Sheet.{Sheet}
 use Rattle.ray_tracing.specs.Layout.{version_number, layout_in, size_in}
 use Rattle.ray_tracing.specs.Reading.{fine, judge_lent, version_in, past, table, accepted, read_sheet}

@@ -6,8 +6,7 @@ use mathlib.Core.Path.{◌≡◌, refl, sym, ap, ◌∙◌}
 use mathlib.Core.Option.{none}
 use mathlib.Core.List.{List, [], ◌∷◌, ◌++◌, map, flatten}
 use lib.ListN.{length}
-use Rattle.ray_tracing.specs.Causes.{Cause}
-use Rattle.ray_tracing.specs.Submission.{Lent, Piece, Action, Answer, Outcome, accepted, refused, ◌leaving◌, left, ◌followed_by◌, later, judge, step, run, submission, decode}
+use Rattle.ray_tracing.specs.Submission.{Lent, Piece, Action, Answer, Outcome, accepted, left, ◌followed_by◌, later, judge, step, run, submission, decode}
 use Rattle.ray_tracing.specs.Claim.{Cut, Fits}
 use Rattle.ray_tracing.proofs.Outcomes.{outcome_sent, outcome_refused, all_outcomes, OutcomeSent, OutcomeCall}
 use Rattle.ray_tracing.proofs.Firsts.{later-later, later_zero, later_then, then_then, then_ap}

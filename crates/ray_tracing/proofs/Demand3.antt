@@ -1,5 +1,5 @@
 -- Demand 3, proved: cuts by `Cuts`, the tables by `Agree`, and a use by what the history tells of the actions before it.
-use Prim.Native.Nat.{ℕ, zero, suc, ◌+◌, ◌^◌, ◌<◌, ◌≤◌}
+use Prim.Native.Nat.{ℕ, zero, suc, ◌+◌, ◌<◌, ◌≤◌}
 use native.Mathlib.Omega.{arith}
 use mathlib.Core.Path.{◌≡◌, refl, sym, ap, ◌∙◌, subst}
 use mathlib.Core.Bool.{Bool, true, false}
@@ -11,11 +11,11 @@ use lib.Dec.{leb}
 use borrow.Author.Tests.{leb-true, leb-false, le-leb, lt-leb, lt-ltb}
 use Rattle.ray_tracing.specs.Causes.{Cause}
 use Rattle.ray_tracing.specs.Submission.{Lent, Piece, Package, Action, build, use_tlas, malformed, Answer, Outcome, accepted, refused, ◌leaving◌, left, ◌followed_by◌, later, unless_cause, first, tlas_count, tlas, judge, before, build_blases, build_tlas, unnumbered, build_tlases, unusable, act, step, run, submission, decode}
-use Rattle.ray_tracing.specs.History.{among, Built, blas_number, Latest, listed, built_with, latest, since, usable, allowed, Told, passed, stopped, log, going, told, acts, tell_action, tell_actions, history}
+use Rattle.ray_tracing.specs.History.{among, Built, blas_number, listed, built_with, latest, since, usable, allowed, Told, passed, stopped, log, going, told, acts, tell_action, tell_actions, history}
 use Rattle.ray_tracing.specs.Claim.{Each, UsableBlas, Usable, NumbersBelow, Fits}
 use Rattle.ray_tracing.proofs.Outcomes.{OutcomeDemand, OutcomeUse, outcome_reached, outcome_call, no_outcome, OutcomeCalls, OutcomeCall}
-use Rattle.ray_tracing.proofs.Sound.{Sound, sound}
-use Rattle.ray_tracing.proofs.Cuts.{run-append, submission-run, sound_call, cuts}
+use Rattle.ray_tracing.proofs.Sound.{sound}
+use Rattle.ray_tracing.proofs.Cuts.{run-append, submission-run, cuts}
 use Rattle.ray_tracing.proofs.Words.{usable_iff}
 use Rattle.ray_tracing.proofs.Agree.{Chain, Agree, agree_start, Same, step_same, run_same, same_agree}
 

@@ -1,7 +1,6 @@
 -- Submissions over lent bytes, computed, as one list with one claim: examples 7 and 8, and lists, cuts and starts that demand 3 speaks of.
 use Prim.Native.Nat.{ℕ, ◌-◌, ◌^◌}
 use mathlib.Core.Path.{◌≡◌, refl}
-use mathlib.Core.Bool.{true, false}
 use mathlib.Core.Option.{Option, none, some}
 use mathlib.Core.List.{List, [], ◌∷◌, ◌++◌, flatten}
 use lib.ListN.{length, replicate}
@@ -9,7 +8,7 @@ use Rattle.wire.specs.Wire.{le_at, le_bytes}
 use Rattle.ray_tracing.specs.Guard.{refuse}
 use Rattle.ray_tracing.specs.Reading.{judge_fields, judge_records, judge_lent}
 use Rattle.ray_tracing.specs.Causes.{Cause, cause, unbuilt_in_use, bare}
-use Rattle.ray_tracing.specs.Submission.{Lent, Piece, Package, Action, build, malformed, Answer, accepted, refused, Outcome, ◌leaving◌, blas_in, tlas_in, list_in, judge, judge_lists, packages_at, packages_lent, action, decode_cells, decode, before, built_blas, built_blases, built_tlas, build_tlases, act, step, run, submission}
+use Rattle.ray_tracing.specs.Submission.{Lent, Piece, Action, build, malformed, accepted, refused, Outcome, ◌leaving◌, blas_in, tlas_in, list_in, judge, judge_lists, packages_at, packages_lent, action, decode_cells, decode, before, built_blas, built_blases, built_tlas, build_tlases, act, step, run, submission}
 use Rattle.ray_tracing.specs.History.{Built, Latest, latest, log, allowed, acts, tell_action, tell_actions}
 use Rattle.ray_tracing.specs.Claim.{Cut}
 

@@ -1,7 +1,6 @@
 -- "Eight proved examples": "All eight are one list, shown by one claim about the written rules."
-use Prim.Native.Nat.{ℕ, zero, suc, ◌-◌, ◌^◌}
+use Prim.Native.Nat.{ℕ, ◌-◌, ◌^◌}
 use mathlib.Core.Path.{◌≡◌, refl}
-use mathlib.Core.Option.{none}
 use mathlib.Core.List.{List, [], ◌∷◌, ◌++◌}
 use lib.ListN.{length, get_or, replicate}
 use Rattle.wire.specs.Wire.{le_at, le_bytes}
@@ -9,7 +8,7 @@ use Rattle.ray_tracing.specs.declared.Version.TheVariants as version
 use Rattle.ray_tracing.specs.Guard.{refuse}
 use Rattle.ray_tracing.specs.Layout.{Field, layout}
 use Rattle.ray_tracing.specs.Reading.{judge_fields, judge_records, judge_drawn, sum_of_counts, judge_lent, version_in, past, from, judge_section, judge_sections, judge_sheet, read_sheet}
-use Rattle.ray_tracing.specs.Causes.{Cause, cause, bare}
+use Rattle.ray_tracing.specs.Causes.{cause, bare}
 use Rattle.ray_tracing.specs.Instances.{present_of, slots_bytes, slot_bytes, instance_bytes, instance_from, words, patterns, words_at}
 use Rattle.ray_tracing.specs.Plan.{Tables, tables_of, Building, recorded, not_built, plan_of, build, first_of, first_drawing, declared_from, judge_tables, judge_ids, judge_entries, judge_packages, total_from, offsets_from, scratch_size, judge_scratch, judge_final, staging_from, ranges_of_entry, ranges_from, compactable_from, entry_blases, dependencies_from, package_lists}
 use Rattle.ray_tracing.specs.Submission.{Lent, Piece, Outcome, accepted, refused, ◌leaving◌, decode, submission, blas_in, tlas_in, list_in, judge, judge_lists, packages_at, packages_lent, action, decode_cells, before, built_blas, built_blases, built_tlas, build_tlases, act, step, run}

@@ -1,5 +1,5 @@
 -- Laws of causes, of outcomes and of tests on lists: what the first of several causes tells, and how outcomes follow on one another.
-use Prim.Native.Nat.{ℕ, zero, suc, ◌+◌, ◌<◌, ◌≤◌}
+use Prim.Native.Nat.{ℕ, ◌+◌, ◌<◌, ◌≤◌}
 use native.Mathlib.Nat.{add_assoc, zero-add}
 use native.Mathlib.Omega.{arith}
 use mathlib.Core.Path.{◌≡◌, refl, sym, ap, ◌∙◌}
@@ -10,7 +10,7 @@ use lib.Dec.{eqb, leb, ltb}
 use borrow.Author.Tests.{ltb-true, ltb-false, leb-true, leb-false, eqb-true, le-leb, lt-leb, lt-ltb, le-ltb}
 use Rattle.ray_tracing.specs.Guard.{refuse}
 use Rattle.ray_tracing.specs.Causes.{Cause}
-use Rattle.ray_tracing.specs.Submission.{Lent, Answer, accepted, refused, Outcome, ◌leaving◌, left, ◌followed_by◌, later, unless_cause, cause_when, ◌or_else◌, first, mentioned}
+use Rattle.ray_tracing.specs.Submission.{Lent, accepted, refused, Outcome, ◌leaving◌, left, ◌followed_by◌, later, unless_cause, cause_when, ◌or_else◌, first, mentioned}
 use Rattle.ray_tracing.specs.History.{every, while_holds, among}
 
 -- ---- causes

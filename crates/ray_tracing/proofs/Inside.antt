@@ -13,32 +13,7 @@ use Rattle.ray_tracing.specs.Layout.{Seen, Field, Layout, layout, layout_in, siz
 use Rattle.ray_tracing.specs.Records.{field_at}
 use Rattle.ray_tracing.specs.Reading.{sum_of_counts, judge_field, judge_fields, judge_records, judge_table, judge_lent, begin, by_record, adds_up}
 use Rattle.ray_tracing.specs.Reading as reading
-use Rattle.ray_tracing.specs.Plan.{
-  Tables,
-  passed,
-  refused,
-  on,
-  first_of,
-  first_drawing,
-  table_of,
-  records_in,
-  entry_of,
-  geometry_of,
-  package_of,
-  geometry_count,
-  slot_count,
-  slot_present,
-  slot_blas,
-  by_section,
-  judge_lent_section,
-  judge_tables,
-  optional_mention,
-  geometry_ids,
-  entry_ids,
-  slot_ids,
-  package_ids,
-  judge_ids,
-}
+use Rattle.ray_tracing.specs.Plan.{Tables, passed, on, first_of, first_drawing, table_of, records_in, entry_of, geometry_of, package_of, geometry_count, slot_count, slot_present, slot_blas, by_section, judge_lent_section, judge_tables, optional_mention, geometry_ids, entry_ids, slot_ids, package_ids, judge_ids}
 use Rattle.ray_tracing.proofs.Reading.{or_fine, on_fine}
 use Rattle.ray_tracing.proofs.Mentions.{mention-inside}
 use Rattle.ray_tracing.proofs.Verdicts.{or-passed, on-passed, on_true, none-at_e, none-cond, each-passed, each-drawing}

@@ -1,10 +1,10 @@
 -- A table that is judged fine stays so when a Build writes a record's number and state: each other record has the bytes it had.
-use Prim.Native.Nat.{ℕ, zero, suc, ◌+◌, ◌*◌, ◌/◌, ◌%◌, ◌^◌, ◌≤◌, ◌<◌}
-use native.Mathlib.Nat.{add_assoc, suc-mul, add_comm, zero-add}
+use Prim.Native.Nat.{ℕ, zero, suc, ◌+◌, ◌*◌, ◌/◌, ◌%◌, ◌^◌, ◌<◌}
+use native.Mathlib.Nat.{add_assoc, suc-mul, zero-add}
 use native.Mathlib.Decide.{dec_lt, ℕ_discrete}
 use native.Mathlib.Omega.{arith}
-use mathlib.Core.Path.{◌≡◌, refl, sym, ap, ◌∙◌, subst}
-use mathlib.Core.Bool.{Bool, true, false, not, ◌||◌}
+use mathlib.Core.Path.{◌≡◌, refl, sym, ap, ◌∙◌}
+use mathlib.Core.Bool.{false, not, ◌||◌}
 use mathlib.Core.List.{List, [], ◌∷◌}
 use lib.ListN.{length, get_or}
 use lib.Dec.{ltb, leb, eqb}
@@ -12,9 +12,9 @@ use Rattle.wire.specs.Wire.{le_at}
 use Rattle.wire.proofs.Laws.{le_cong}
 use Rattle.ray_tracing.specs.declared.Blas.{Blas}
 use Rattle.ray_tracing.specs.declared.Tlas.{Tlas}
-use Rattle.ray_tracing.specs.Layout.{Seen, Field, fits, Layout, layout, size, total}
+use Rattle.ray_tracing.specs.Layout.{Seen, Field, fits, layout, size, total}
 use Rattle.ray_tracing.specs.Records.{blas_at, tlas_at}
-use Rattle.ray_tracing.specs.Reading.{Judged, fine, refused, judged_when, ◌and_next◌, judge_field, judge_fields, judge_records, judge_lent, begin, by_record}
+use Rattle.ray_tracing.specs.Reading.{Judged, fine, refused, judged_when, ◌and_next◌, judge_fields, judge_records, judge_lent, begin, by_record}
 use Rattle.ray_tracing.specs.Submission.{blas_in, tlas_in, built_blas, built_tlas}
 use Rattle.ray_tracing.proofs.Tables.{blas_with, tlas_with, built-length, built-before, built-past, built_same, tlas-length, tlas-before, tlas-past, tlas_same}
 

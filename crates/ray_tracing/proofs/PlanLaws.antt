@@ -11,7 +11,6 @@ use lib.ListN.{length, drop, get_or}
 use lib.Seq.{sets-eq}
 use borrow.Author.Tests.{eqb-false, ltb-false}
 use Rattle.ray_tracing.specs.declared.Written.{Written}
-use Rattle.ray_tracing.specs.Layout.{size}
 use Rattle.ray_tracing.specs.Causes.{Cause, bare}
 use Rattle.ray_tracing.specs.Plan.{Tables, Verdict, passed, refused, on, ◌or◌, first_of, records_in, blas_of_entry, tlas_of_package, judge_tables, judge_ids, judge_entries, judge_packages, judge_final, tlas_destroyed, blas_buildable, blas_scratch, tlas_scratch, blas_total, tlas_total, scratch_size, judge_scratch, entry_blases, Outputs, plan_of, too_short, short, counts_of, Building, recorded, nothing-recorded, not_built, unless, build, leaves}
 use Rattle.ray_tracing.specs.Submission as submission

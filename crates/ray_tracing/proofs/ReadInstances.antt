@@ -1,6 +1,6 @@
 -- Laws of instances read back. What is accepted, the writer turns back into the same bytes, 35 aside; what the writer took, of a Blas whose
 -- address stands once, comes back as it was. 48 comes before all, then the first record that is bad, and 39 last; nothing is handed out.
-use Prim.Native.Nat.{ℕ, zero, suc, ◌+◌, ◌*◌, ◌/◌, ◌%◌, ◌^◌, ◌≤◌, ◌<◌}
+use Prim.Native.Nat.{ℕ, zero, suc, ◌*◌, ◌/◌, ◌%◌, ◌^◌, ◌≤◌, ◌<◌}
 use native.Mathlib.Nat.{zero-add, not-suc-le-zero}
 use native.Mathlib.Omega.{arith}
 use mathlib.Core.Path.{◌≡◌, refl, sym, ap, ◌∙◌}

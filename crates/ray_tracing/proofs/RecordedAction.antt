@@ -13,7 +13,7 @@ use lib.Seq.{take_at, drop_at, get_or-drop, drop-drop}
 use borrow.Author.Tests.{ne_eqb, le-leb}
 use Rattle.ray_tracing.specs.Causes.{Cause, cause, bare}
 use Rattle.ray_tracing.specs.Instances.{present_of}
-use Rattle.ray_tracing.specs.Plan.{Tables, on, ◌or◌, records_in, entry_of, package_of, blas_of_entry, slot_count, slot_present, slot_blas, entry_blases, dependencies_from, package_lists, build}
+use Rattle.ray_tracing.specs.Plan.{Tables, records_in, entry_of, package_of, blas_of_entry, slot_count, slot_present, slot_blas, entry_blases, dependencies_from, package_lists}
 use Rattle.ray_tracing.specs.Submission as submission
 use Rattle.ray_tracing.specs.Submission.{Lent, Package, past_package, packages_at, packages_lent, action}
 use Rattle.ray_tracing.proofs.Inside.{Inside, slots_before, slots-none, slots_more}

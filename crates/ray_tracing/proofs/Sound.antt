@@ -1,21 +1,20 @@
 -- What a submission leaves, accepted or refused, is again a start that is not refused: the tables stay fine, the room stays, the counter
 -- stays a u64, and a list that a Build wrote was judged before.
-use Prim.Native.Nat.{ℕ, zero, suc, ◌+◌, ◌*◌, ◌/◌, ◌%◌, ◌^◌, ◌≤◌, ◌<◌}
+use Prim.Native.Nat.{ℕ, zero, suc, ◌+◌, ◌*◌, ◌/◌, ◌^◌, ◌≤◌, ◌<◌}
 use native.Mathlib.Nat.{add-zero, zero-add}
 use native.Mathlib.Decide.{ℕ_discrete}
 use native.Mathlib.Omega.{arith}
 use mathlib.Core.Path.{◌≡◌, refl, sym, ap, ◌∙◌, subst}
-use mathlib.Core.Bool.{Bool, true, false}
+use mathlib.Core.Bool.{false}
 use mathlib.Core.Option.{Option, none, some}
 use mathlib.Core.List.{List, [], ◌∷◌}
-use lib.ListN.{length, take, drop, get_or, set, length-set}
-use lib.Seq.{sets, length-sets, get_or-set_same, get_or-set_other}
-use lib.Dec.{eqb, leb, ltb}
-use borrow.Author.Tests.{eqb-false}
+use lib.ListN.{length, get_or, set, length-set}
+use lib.Seq.{length-sets, get_or-set_same, get_or-set_other}
+use lib.Dec.{eqb, ltb}
 use Rattle.ray_tracing.specs.Layout.{layout, size}
 use Rattle.ray_tracing.specs.Reading as reading
-use Rattle.ray_tracing.specs.Causes.{Cause, cause, bare}
-use Rattle.ray_tracing.specs.Submission.{Lent, Package, Action, build, use_tlas, malformed, Outcome, accepted, refused, ◌leaving◌, left, ◌followed_by◌, later, unless_cause, cause_when, ◌or_else◌, first, blas_count, tlas_count, blas_in, tlas_in, list_in, blas, tlas, dependencies_of, mention_blas, mention_tlas, mention_package, too_many, compacted, table_cause, judge_blases, judge_tlases, judge_room, judge_list, judge_lists, judge, before, built_blas, built_blases, build_blases, built_tlas, build_tlas, unnumbered, build_tlases, unusable, act, step, run, submission}
+use Rattle.ray_tracing.specs.Causes.{Cause, bare}
+use Rattle.ray_tracing.specs.Submission.{Lent, Package, Action, build, use_tlas, malformed, accepted, ◌leaving◌, left, unless_cause, cause_when, ◌or_else◌, first, tlas_count, dependencies_of, mention_blas, mention_tlas, mention_package, too_many, compacted, table_cause, judge_blases, judge_tlases, judge_room, judge_list, judge_lists, judge, before, built_blas, built_blases, build_blases, build_tlas, unnumbered, build_tlases, unusable, act, step, run, submission}
 use Rattle.ray_tracing.proofs.Tables.{built-length, tlas-length, list_same, list_other}
 use Rattle.ray_tracing.proofs.Firsts.{or_none, none_or, on_none, outside, inside, within, within_none, left-later, left-unless, left_then}
 use Rattle.ray_tracing.proofs.Judging.{blases-kept, tlases-kept}

@@ -10,7 +10,7 @@ use lib.Seq.{take_at, drop_at, take-take}
 use borrow.Author.Tests.{eqb-false, not-true}
 use Rattle.ray_tracing.specs.Instances.{instance_at, address_for, instance_bytes, slot_bytes, slots_bytes, present_of}
 use Rattle.ray_tracing.specs.Plan.{Tables, records_in, slot_count, slot_present, staging_from, plan_of}
-use Rattle.ray_tracing.proofs.Inside.{Inside, inside, slots_before, slots-none, slots_more}
+use Rattle.ray_tracing.proofs.Inside.{Inside, slots_before, slots-none, slots_more}
 use Rattle.ray_tracing.proofs.Instances.{Below, transform_back, from-length, slot-some, slots_length, slots-append, present-append, present_bound}
 
 -- ---- staging ranges

@@ -1,15 +1,15 @@
 -- Records and lists of lent tables after a Build's writes: what was written stands there, and every other field, record, list and cell is
 -- as it was, since a read goes by the bytes that it reads.
-use Prim.Native.Nat.{ℕ, zero, suc, ◌+◌, ◌*◌, ◌/◌, ◌^◌, ◌≤◌, ◌<◌}
+use Prim.Native.Nat.{ℕ, ◌+◌, ◌*◌, ◌^◌, ◌≤◌, ◌<◌}
 use native.Mathlib.Nat.{add_assoc}
 use native.Mathlib.Decide.{dec_lt}
 use native.Mathlib.Omega.{arith}
-use mathlib.Core.Path.{◌≡◌, refl, sym, ap, ◌∙◌}
-use mathlib.Core.List.{List, [], ◌∷◌, ◌++◌, append_assoc}
-use lib.ListN.{length, take, drop, get_or, set, length-set, length-take, length-drop}
+use mathlib.Core.Path.{◌≡◌, ap, ◌∙◌}
+use mathlib.Core.List.{List, ◌++◌, append_assoc}
+use lib.ListN.{length, take, drop, get_or, set, length-take, length-drop}
 use lib.Seq.{sets, length-sets, sets-eq, ext_get_or, get_or-take, get_or-drop, drop_at, take-append_seam, length-take-le, get_or-set_same, get_or-set_other}
 use Rattle.wire.specs.Wire.{le_at, le_bytes}
-use Rattle.wire.proofs.Laws.{le_cong, le_before, le_past, le_same, sets-before, sets-past, sets_within, length-le_bytes}
+use Rattle.wire.proofs.Laws.{le_cong, le_before, le_past, le_same, sets-before, sets-past, length-le_bytes}
 use Rattle.ray_tracing.specs.declared.Blas.{Blas}
 use Rattle.ray_tracing.specs.declared.Tlas.{Tlas}
 use Rattle.ray_tracing.specs.Layout.{size}

@@ -1,7 +1,7 @@
 -- A submission's refusals are told by their numbers: each is above 0, and its third figure is 0.
-use Prim.Native.Nat.{ℕ, zero, suc, ◌+◌, ◌*◌, ◌<◌, ◌≤◌}
+use Prim.Native.Nat.{ℕ, zero, suc, ◌+◌, ◌*◌, ◌<◌}
 use native.Mathlib.Omega.{arith}
-use mathlib.Core.Path.{◌≡◌, refl, ap}
+use mathlib.Core.Path.{◌≡◌, refl}
 use mathlib.Core.Bool.{Bool, true, false}
 use mathlib.Core.Option.{Option, none, some}
 use mathlib.Core.List.{List, [], ◌∷◌}
@@ -11,7 +11,7 @@ use Rattle.ray_tracing.specs.Mentions.{blas_mention, tlas_mention}
 use Rattle.ray_tracing.specs.Layout.{layout, size}
 use Rattle.ray_tracing.specs.Reading as reading
 use Rattle.ray_tracing.specs.Causes.{Cause, cause, bare}
-use Rattle.ray_tracing.specs.Submission.{Lent, Package, Action, build, use_tlas, malformed, Answer, accepted, refused, Outcome, ◌leaving◌, ◌followed_by◌, later, unless_cause, cause_when, ◌or_else◌, first, mentioned, mention_blas, mention_tlas, table_cause, judge_blases, judge_tlases, judge_room, judge_list, judge_lists, judge, tlas_count, dependencies_of, most_blases, most_tlases, most_dependencies, blas, tlas, too_many, mention_package, compacted, before, build_blases, build_tlas, unnumbered, build_tlases, unusable_blas, unusable, act, step, run, submission}
+use Rattle.ray_tracing.specs.Submission.{Lent, Package, Action, build, use_tlas, malformed, accepted, refused, Outcome, ◌leaving◌, ◌followed_by◌, later, unless_cause, cause_when, ◌or_else◌, first, mentioned, mention_blas, table_cause, judge_list, judge_lists, judge, tlas_count, dependencies_of, most_blases, most_tlases, most_dependencies, blas, tlas, too_many, mention_package, compacted, before, build_blases, build_tlas, unnumbered, build_tlases, unusable_blas, unusable, act, step, run, submission}
 use Rattle.ray_tracing.proofs.Lent.{Only, only_above, lent_only}
 
 pub record Told (c : Cause) : Type 0 where

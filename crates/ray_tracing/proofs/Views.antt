@@ -438,7 +438,7 @@ module _ (C : Relation) (d : Sender) where
       let u = wrote-tlas d v.that m p g there.0 most in
       both_unless (first (unnumbered l p.tlas) p.dependencies) (first (unnumbered r p.tlas) p.dependencies)
       (same (unnumbered-alike v p.tlas p.dependencies ids.1)) (settled d v)
-      (λ a b. build-tlases
+      (λ a b. build-tlases {l = build_tlas n p l} {r = build_tlas m p r}
       (alike_wrote d v v.order w u v.counters (own-tlas d v.this n p f here.0 most ids.1 w) (own-tlas d v.that m p g there.0 most ids.1 u))
       f g ps own.1 short.1 (mention-kept n p l ps here.1) (mention-kept m p r ps there.1))
 
@@ -491,7 +491,7 @@ module _ (C : Relation) (d : Sender) where
       let most = within most_dependencies (length p.dependencies) (bare 4) short.0 in
       let w = wrote_none d (wrote-tlas d v.this n p f here.0 most) (apart (not-true (d.tlas p.tlas) miss.0)) in
       left-unless (λ q. Alike C d 0 0 q r) (first (unnumbered l p.tlas) p.dependencies) l (build_tlases n ps (build_tlas n p l)) v
-      (other-tlases (alike_none v w v.counters (own-tlas d v.this n p f here.0 most refl w)) n f ps miss.1 short.1 (mention-kept n p l ps here.1))
+      (other-tlases {l = build_tlas n p l} (alike_none v w v.counters (own-tlas d v.this n p f here.0 most refl w)) n f ps miss.1 short.1 (mention-kept n p l ps here.1))
     where
       apart : d.tlas p.tlas ≡ false → (x : Structure) → own_structure d x ≡ true → tlas_is d p.tlas x ≡ false
       apart k (a_blas b) h = refl

@@ -1,6 +1,6 @@
 -- Vulkan's bytes of what callers find: in the output that a recorded build leaves, each present slot's 64 bytes are those of the
 -- VkAccelerationStructureInstanceKHR that the slot says; and so are an appended instance's, and those of each of many.
-use Prim.Native.Nat.{ℕ, ◌+◌, ◌-◌, ◌*◌, ◌^◌, ◌<◌, ◌≤◌}
+use Prim.Native.Nat.{ℕ, ◌+◌, ◌*◌, ◌^◌, ◌<◌, ◌≤◌}
 use native.Mathlib.Nat.{zero-add}
 use native.Mathlib.Omega.{arith}
 use mathlib.Core.Path.{◌≡◌, refl, sym, ap, ◌∙◌}

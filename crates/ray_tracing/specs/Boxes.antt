@@ -1,12 +1,12 @@
 -- "Boxes: 10, 11, 12, 31, 32, 33, 21, 22, 26 (stride or count times stride above 2^32 - 1), 23." Over whole numbers. Assumes nothing.
-use Rattle.std.specs.Prelude.{ℕ, ◌+◌, ◌*◌, ◌%◌, ◌||◌, [], ltb}
+use Rattle.std.specs.Prelude.{◌+◌, ◌*◌, ◌%◌, ◌||◌, [], ltb}
 use Rattle.std.proofs.Math.Option.{Option}
 use Rattle.scratch.specs.Scratch.{stopped}
 use Rattle.ray_tracing.specs.declared.Blas.{Blas}
 use Rattle.ray_tracing.specs.declared.Buffer.{Buffer}
 use Rattle.ray_tracing.specs.declared.BlasGeometry.{BlasGeometry}
 use Rattle.ray_tracing.specs.declared.BlasGeometrySizeDescriptor.{BlasGeometrySizeDescriptor}
-use Rattle.ray_tracing.specs.Causes.{Cause, cause, bare}
+use Rattle.ray_tracing.specs.Causes.{cause, bare}
 use Rattle.ray_tracing.specs.Guard.{refuse, neb}
 use Rattle.ray_tracing.specs.Checks.{Checked, asks, refused, range, ranges, limit32, usable_buffer}
 use Rattle.ray_tracing.specs.Triangles.{declared_rule}

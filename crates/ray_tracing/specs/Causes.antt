@@ -1,12 +1,7 @@
 -- "Causes and what they cost": the number of each cause, and what is returned with it, for each answer of the code. Assumes nothing.
 use Rattle.std.specs.Prelude.{ℕ, Bool, true, false}
-use Rattle.ray_tracing.specs.declared.BufferId.{BufferId}
-use Rattle.ray_tracing.specs.declared.BlasId.{BlasId}
-use Rattle.ray_tracing.specs.declared.TlasId.{TlasId}
 use Rattle.ray_tracing.specs.declared.SheetError.{SheetError}
 use Rattle.ray_tracing.specs.declared.SheetError.TheVariants as sheet
-use Rattle.ray_tracing.specs.declared.Judged.{Judged}
-use Rattle.ray_tracing.specs.declared.Judged.TheVariants as judged
 use Rattle.ray_tracing.specs.declared.SheetRead.{SheetRead}
 use Rattle.ray_tracing.specs.declared.SheetRead.TheVariants as sheet-read
 use Rattle.ray_tracing.specs.declared.Resource.{Resource}

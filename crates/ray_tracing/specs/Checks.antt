@@ -1,18 +1,7 @@
 -- What the checks of a geometry give: the first cause, or what is asked to be initialised. Assumes nothing.
-use Rattle.std.specs.Prelude.{ℕ, ◌+◌, Bool, true, false, not, List, [], ◌∷◌, ◌++◌, ltb}
-use Rattle.std.proofs.Math.Option.{Option, none, some}
+use Rattle.std.specs.Prelude.{ℕ, ◌+◌, not, List, [], ◌∷◌, ◌++◌}
 use Rattle.ray_tracing.specs.declared.Buffer.{Buffer}
-use Rattle.ray_tracing.specs.declared.BlasGeometrySizeDescriptor.{BlasGeometrySizeDescriptor}
-use Rattle.ray_tracing.specs.declared.Declared.{Declared}
-use Rattle.ray_tracing.specs.declared.Declared.TheVariants as declared
-use Rattle.ray_tracing.specs.declared.GivenBuffer.{GivenBuffer}
-use Rattle.ray_tracing.specs.declared.GivenBuffer.TheVariants as given-buffer
-use Rattle.ray_tracing.specs.declared.Range.{Range}
-use Rattle.ray_tracing.specs.declared.Asked.{Asked}
-use Rattle.ray_tracing.specs.declared.Asked.TheVariants as asked
-use Rattle.ray_tracing.specs.declared.CheckedGeometry.{CheckedGeometry}
-use Rattle.ray_tracing.specs.declared.CheckedGeometry.TheVariants as checked
-use Rattle.ray_tracing.specs.Causes.{Cause, cause, build_cause}
+use Rattle.ray_tracing.specs.Causes.{Cause, cause}
 use Rattle.ray_tracing.specs.Guard.{refuse}
 
 infixr 20 ◌then◌

@@ -4,8 +4,8 @@ use mathlib.Core.List.{List, [], ◌∷◌, map, flatten}
 use Rattle.ray_tracing.specs.declared.Submitted.{Submitted}
 use Rattle.ray_tracing.specs.declared.CommandIndices.{CommandIndices}
 use Rattle.ray_tracing.specs.declared.Validated.{Validated}
-use Rattle.ray_tracing.specs.Submission.{Lent, Piece, Numbers, answer_numbers, submission, decode, use_tlas, malformed, blas_count, tlas_count, blas, tlas, dependencies_of, Buffers, lent_with, answer_of, counter_of, Submits, Shown, shown, numbers_of, Validates}
-use Rattle.ray_tracing.specs.History.{among, Built, next, blas_number, Latest, latest, since, cell, blas_by, tlas_by, Told, log, going, tell_actions, history}
+use Rattle.ray_tracing.specs.Submission.{Lent, Piece, answer_numbers, submission, decode, use_tlas, malformed, blas_count, tlas_count, blas, tlas, dependencies_of, Buffers, lent_with, answer_of, counter_of, Submits, Shown, shown, numbers_of, Validates}
+use Rattle.ray_tracing.specs.History.{among, Built, next, blas_number, latest, since, cell, blas_by, tlas_by, Told, log, going, tell_actions, history}
 
 -- ---- routines
 

@@ -8,8 +8,6 @@ use Rattle.ray_tracing.specs.declared.Blas.{Blas}
 use Rattle.ray_tracing.specs.declared.Tlas.{Tlas}
 use Rattle.ray_tracing.specs.declared.TlasId.{TlasId}
 use Rattle.ray_tracing.specs.declared.TlasInstance.{TlasInstance}
-use Rattle.ray_tracing.specs.declared.CheckedInstance.{CheckedInstance}
-use Rattle.ray_tracing.specs.declared.CheckedInstance.TheVariants as checked
 use Rattle.ray_tracing.specs.declared.Appended.{Appended}
 use Rattle.ray_tracing.specs.declared.Appended.TheVariants as appended
 use Rattle.ray_tracing.specs.Guard.{refuse, neb}

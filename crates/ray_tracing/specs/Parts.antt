@@ -37,7 +37,8 @@ packages_in packages = length packages / size 7
 -- what they name stands in its table
 
 abbrev pub EntriesNamed : List ℕ → List ℕ → Type 0
-EntriesNamed blases entries = (i : ℕ) → i < entries_in entries → (entry_of (of_entries [] entries) i).blas.0 < length blases / size 2
+EntriesNamed blases entries =
+    (i : ℕ) → i < entries_in entries → (entry_of (of_entries [] entries) i).blas.0 < length blases / size 2
 
 abbrev pub PackagesNamed : List ℕ → List ℕ → Type 0
 PackagesNamed tlases packages =

@@ -1,10 +1,9 @@
 -- "Building, in order": the first refusal with E and its figures, or the plan and the recorded action. Assumes nothing.
-use Rattle.std.specs.Prelude.{ℕ, zero, suc, ◌+◌, ◌-◌, ◌*◌, ◌/◌, ◌%◌, ◌^◌, max, ◌≡◌, Bool, true, false, not, ◌||◌, cond, List, [], ◌∷◌, ◌++◌, length, get_or, leb, ltb, eqb}
+use Rattle.std.specs.Prelude.{ℕ, zero, suc, ◌+◌, ◌-◌, ◌*◌, ◌/◌, ◌%◌, ◌^◌, max, ◌≡◌, Bool, true, false, ◌||◌, cond, List, [], ◌∷◌, ◌++◌, length, get_or, leb, ltb, eqb}
 use Rattle.std.proofs.Math.Option.{Option, none, some}
 use Rattle.std.proofs.lemmas.List.Edits.{sets}
 use Rattle.scratch.specs.Scratch.{add_rounded}
 use Rattle.ray_tracing.specs.declared.Version.{Version}
-use Rattle.ray_tracing.specs.declared.Buffer.{Buffer}
 use Rattle.ray_tracing.specs.declared.Blas.{Blas}
 use Rattle.ray_tracing.specs.declared.BlasGeometrySizeDescriptor.{BlasGeometrySizeDescriptor}
 use Rattle.ray_tracing.specs.declared.Tlas.{Tlas}
@@ -12,13 +11,11 @@ use Rattle.ray_tracing.specs.declared.BlasBuildEntry.{BlasBuildEntry}
 use Rattle.ray_tracing.specs.declared.BlasGeometry.{BlasGeometry}
 use Rattle.ray_tracing.specs.declared.TlasPackage.{TlasPackage}
 use Rattle.ray_tracing.specs.declared.Written.{Written}
-use Rattle.ray_tracing.specs.declared.Verdict as code-verdict
-use Rattle.ray_tracing.specs.declared.Verdict.TheVariants as verdict
 use Rattle.ray_tracing.specs.declared.Built.{Built}
 use Rattle.ray_tracing.specs.declared.Built.TheVariants as built
 use Rattle.ray_tracing.specs.Layout.{layout_in, size, size_in}
 use Rattle.ray_tracing.specs.Reading as reading
-use Rattle.ray_tracing.specs.Records.{field_at, buffer_at, blas_at, declared_at, tlas_at, entry_at, geometry_at, package_at}
+use Rattle.ray_tracing.specs.Records.{field_at, declared_at, entry_at, geometry_at, package_at}
 use Rattle.ray_tracing.specs.Causes.{Cause, cause, bare, build_cause}
 use Rattle.ray_tracing.specs.Checks as checks
 use Rattle.ray_tracing.specs.Triangles.{unless_none, triangles_rule}
@@ -448,7 +445,8 @@ build x o =
     (cond (eqb (scratch_size x) 0)
     (unless (on (short (plan_of x).init_ranges o.init_ranges) (refused 0 0 (bare 39)))
     (nothing-recorded (length (plan_of x).init_ranges)))
-    (unless (judge_final x or on (too_short (plan_of x) o) (refused 0 0 (bare 39))) (recorded (scratch_size x) (counts_of (plan_of x)))))
+    (unless (judge_final x or on (too_short (plan_of x) o) (refused 0 0 (bare 39)))
+    (recorded (scratch_size x) (counts_of (plan_of x)))))
 
 -- "Lent output past what is written keeps its bytes"; a refusal leaves all as it was
 abbrev pub written : Outputs → Outputs → Outputs

@@ -8,7 +8,7 @@ use Rattle.std.proofs.lemmas.List.Edits.{sets}
 use Rattle.ray_tracing.specs.declared.Sheet.{Sheet}
 use Rattle.ray_tracing.specs.declared.Reported.{Reported}
 use Rattle.ray_tracing.specs.declared.Reported.TheVariants as reported
-use Rattle.ray_tracing.specs.Layout.{layout, size}
+use Rattle.ray_tracing.specs.Layout.{size}
 use Rattle.ray_tracing.specs.Reading.{Reading, accepted, rejected, read_sheet, table}
 use Rattle.ray_tracing.specs.Records.{field_at}
 use Rattle.ray_tracing.specs.Causes.{Cause, bare}
@@ -104,7 +104,10 @@ cells_of x kind operand =
 unfoldable pub action_cells : Tables → Bool → List ℕ → ℕ → ℕ → List ℕ
 action_cells x was_recorded a i zero = []
 action_cells x was_recorded a i (suc n) =
-    cond (kept was_recorded (field_at 9 a (i * size 9) 0)) (cells_of x (field_at 9 a (i * size 9) 0) (field_at 9 a (i * size 9) 1)) []
+    cond
+    (kept was_recorded (field_at 9 a (i * size 9) 0))
+    (cells_of x (field_at 9 a (i * size 9) 0) (field_at 9 a (i * size 9) 1))
+    []
     ++ action_cells x was_recorded a (i + 1) n
 
 unfoldable pub positions : Bool → List ℕ → ℕ → ℕ → List ℕ
@@ -117,7 +120,8 @@ sheet_piece x was_recorded a =
     record { actions = action_cells x was_recorded a 0 (length a / size 9); lists = cond was_recorded (plan_of x).lists [] }
 
 abbrev pub sheet_outcome : ℕ → Tables → Bool → List ℕ → submission.Outcome
-sheet_outcome counter x was_recorded a = submission.submission (sheet_start counter x) (submission.decode (sheet_piece x was_recorded a))
+sheet_outcome counter x was_recorded a =
+    submission.submission (sheet_start counter x) (submission.decode (sheet_piece x was_recorded a))
 
 -- "`submit` number, action, two figures; `next` counter"; a passed-over action keeps its position
 abbrev pub submit_numbers : List ℕ → submission.Answer → List ℕ

@@ -130,7 +130,8 @@ judge_room l =
 -- "then starting plant lists by Tlas, 4 above 512 Blases, 6 outside the table": 4 goes by the count itself
 abbrev pub judge_list : Lent → ℕ → Option Cause
 judge_list l t =
-    cause_when (ltb most_dependencies (get_or l.dependency_counts t 0)) (bare 4) or_else first (mention_blas l) (dependencies_of l t)
+    cause_when (ltb most_dependencies (get_or l.dependency_counts t 0)) (bare 4)
+    or_else first (mention_blas l) (dependencies_of l t)
 
 -- the lists of n Tlases from t on
 unfoldable pub judge_lists : Lent → ℕ → ℕ → Option Cause

@@ -1,13 +1,13 @@
 -- "Triangles: 10 to 20 in order; data buffer 21, 22, 23. With an index buffer: 24, 21, 22, 25, 26, 26, 27, 23. With a transform buffer:
 -- 28, 24, 21, 22, 26, 29, 23; without: 30." Over whole numbers. Assumes nothing.
-use Rattle.std.specs.Prelude.{ℕ, ◌+◌, ◌*◌, ◌%◌, Bool, true, false, not, ◌&&◌, cond, List, [], ltb, eqb}
+use Rattle.std.specs.Prelude.{ℕ, ◌+◌, ◌*◌, ◌%◌, Bool, true, false, not, ◌&&◌, cond, [], ltb, eqb}
 use Rattle.std.proofs.Math.Option.{Option, none, some}
 use Rattle.scratch.specs.Scratch.{stopped}
 use Rattle.ray_tracing.specs.declared.Blas.{Blas}
 use Rattle.ray_tracing.specs.declared.Buffer.{Buffer}
 use Rattle.ray_tracing.specs.declared.BlasGeometry.{BlasGeometry}
 use Rattle.ray_tracing.specs.declared.BlasGeometrySizeDescriptor.{BlasGeometrySizeDescriptor}
-use Rattle.ray_tracing.specs.Causes.{Cause, cause, bare}
+use Rattle.ray_tracing.specs.Causes.{cause, bare}
 use Rattle.ray_tracing.specs.Guard.{refuse, neb}
 use Rattle.ray_tracing.specs.Checks.{Checked, asks, refused, ◌then◌, range, ranges, limit32, usable_buffer}
 

@@ -1,4 +1,6 @@
 // Ids, the records of lent tables by value, and what the entry points answer. The paper as definitions stands in specs/.
+#![tactic(auto)]
+
 ghost use Rattle.std.specs.Prelude.{◌≡◌, ◌&&◌, ◌||◌, cond};
 ghost use Rattle.ray_tracing.specs.Layout.{version_number, size_in};
 ghost use Rattle.ray_tracing.specs.Plan.{◌or◌};
@@ -46,29 +48,29 @@ pub const NAME_SIZE: usize = 3;
 pub const TLAS_ROOM: usize = 512;
 
 // The version of a sheet, or of the geometries that a build is lent: how wide their offsets are.
-#[derive(Drop)]
+#[derive(Clone, Copy)]
 pub enum Version {
     One,
     Two,
 }
 
-#[derive(Drop)]
+#[derive(Clone, Copy)]
 pub struct BufferId(pub u16);
 
-#[derive(Drop)]
+#[derive(Clone, Copy)]
 pub struct BlasId(pub u16);
 
-#[derive(Drop)]
+#[derive(Clone, Copy)]
 pub struct TlasId(pub u16);
 
-#[derive(Drop)]
+#[derive(Clone, Copy)]
 pub struct Buffer {
     pub size: u64,
     pub blas_input: bool,
     pub destroyed: bool,
 }
 
-#[derive(Drop)]
+#[derive(Clone, Copy)]
 pub struct Blas {
     pub kind: u8,
     pub flags: u8,
@@ -80,7 +82,7 @@ pub struct Blas {
 }
 
 // What a Blas declares of one of its geometries, of either kind.
-#[derive(Drop)]
+#[derive(Clone, Copy)]
 pub struct BlasGeometrySizeDescriptor {
     pub blas: BlasId,
     pub flags: u8,
@@ -93,7 +95,7 @@ pub struct BlasGeometrySizeDescriptor {
     pub index_count: u32,
 }
 
-#[derive(Drop)]
+#[derive(Clone, Copy)]
 pub struct Tlas {
     pub flags: u8,
     pub destroyed: u8,
@@ -102,7 +104,7 @@ pub struct Tlas {
     pub built_index: u64,
 }
 
-#[derive(Drop)]
+#[derive(Clone, Copy)]
 pub struct BlasBuildEntry {
     pub blas: BlasId,
     pub kind: u8,
@@ -110,7 +112,7 @@ pub struct BlasBuildEntry {
 }
 
 // A geometry of either kind: `first` is the first vertex or the primitive offset, `buffer` the vertex or the AABB buffer.
-#[derive(Drop)]
+#[derive(Clone, Copy)]
 pub struct BlasGeometry {
     pub flags: u8,
     pub count: u32,
@@ -129,14 +131,14 @@ pub struct BlasGeometry {
     pub transform_buffer_offset: u64,
 }
 
-#[derive(Drop)]
+#[derive(Clone, Copy)]
 pub struct TlasPackage {
     pub tlas: TlasId,
     pub slot_count: u16,
 }
 
 // The transform's numbers; beside each that is a NaN the pattern it was read from, 0 beside the others: an f32 keeps no NaN's payload.
-#[derive(Drop)]
+#[derive(Clone, Copy)]
 pub struct TlasInstance {
     pub transform: [f32; 12],
     pub nan_bits: [u32; 12],
@@ -146,7 +148,7 @@ pub struct TlasInstance {
 }
 
 // Why a sheet is refused.
-#[derive(Drop)]
+#[derive(Clone, Copy)]
 pub enum SheetError {
     UnknownVersion,
     Truncated,
@@ -156,20 +158,20 @@ pub enum SheetError {
 }
 
 // What judging finds: nothing to refuse, or the first refusal and its place, a byte of the sheet or a record of a lent table.
-#[derive(Drop)]
+#[derive(Clone, Copy)]
 pub enum Judged {
     Fine,
     Refused(SheetError, usize),
 }
 
 // Where a section's records begin, and how many there are.
-#[derive(Drop)]
+#[derive(Clone, Copy)]
 pub struct Section {
     pub start: usize,
     pub count: usize,
 }
 
-#[derive(Drop)]
+#[derive(Clone, Copy)]
 pub struct Sheet {
     pub version: Version,
     pub alignment: u32,
@@ -185,14 +187,14 @@ pub struct Sheet {
     pub actions: Section,
 }
 
-#[derive(Drop)]
+#[derive(Clone, Copy)]
 pub enum SheetRead {
     Accepted(Sheet),
     Refused(SheetError, usize),
 }
 
 // What writing a sheet came to: how many bytes were written, why the sheet is not read and where, or too little room.
-#[derive(Drop)]
+#[derive(Clone, Copy)]
 pub enum SheetWritten {
     Written(usize),
     Refused(SheetError, usize),
@@ -201,7 +203,7 @@ pub enum SheetWritten {
 
 // What converting a sheet came to: how many bytes were written, why the sheet is not read and where, the place of an offset that does not fit
 // the narrower field, or too little room.
-#[derive(Drop)]
+#[derive(Clone, Copy)]
 pub enum SheetConverted {
     Written(usize),
     Refused(SheetError, usize),
@@ -211,7 +213,7 @@ pub enum SheetConverted {
 
 // What judging groups finds: nothing to refuse, and where what was judged ends; a sheet's error at its byte; or, at a group and an item, a count
 // of 0 or a group that is not an earlier one.
-#[derive(Drop)]
+#[derive(Clone, Copy)]
 pub enum GroupsJudged {
     EndsAt(usize),
     Refused(SheetError, usize),
@@ -220,7 +222,7 @@ pub enum GroupsJudged {
 
 // What opening groups came to: how many bytes were written; what judging them refused; the group and the item of the slot that is one too
 // many; or too little room.
-#[derive(Drop)]
+#[derive(Clone, Copy)]
 pub enum GroupsOpened {
     Written(usize),
     Refused(SheetError, usize),
@@ -230,7 +232,7 @@ pub enum GroupsOpened {
 }
 
 // What a refusal speaks of.
-#[derive(Drop)]
+#[derive(Clone, Copy)]
 pub enum Resource {
     Buffer(BufferId),
     Blas(BlasId),
@@ -238,14 +240,14 @@ pub enum Resource {
 }
 
 // Whose running total of scratch it is: entries run one for their Blases, packages one for their Tlases.
-#[derive(Drop)]
+#[derive(Clone, Copy)]
 pub enum RunningTotal {
     Entries,
     Packages,
 }
 
 // Why a build is refused. The Rust's names, and those that the paper adds: where the Rust panics, ids and values of lent tables, room.
-#[derive(Drop)]
+#[derive(Clone, Copy)]
 pub enum BuildAccelerationStructureError {
     TooMany,
     InvalidValue,
@@ -291,14 +293,14 @@ pub enum BuildAccelerationStructureError {
 }
 
 // What judging a build finds: nothing to refuse, or the first refusal and E, its entry and geometry or its package and slot.
-#[derive(Drop)]
+#[derive(Clone, Copy)]
 pub enum Verdict {
     Passed,
     Refused(BuildAccelerationStructureError, usize, usize),
 }
 
 // How many elements of each lent output a recorded build writes.
-#[derive(Drop)]
+#[derive(Clone, Copy)]
 pub struct Written {
     pub blas_offsets: usize,
     pub tlas_offsets: usize,
@@ -310,7 +312,7 @@ pub struct Written {
 }
 
 // Recorded, with the scratch size; nothing to record, only the initialisation ranges written; or refused, with E.
-#[derive(Drop)]
+#[derive(Clone, Copy)]
 pub enum Built {
     Recorded(u64, Written),
     NothingRecorded(usize),
@@ -318,35 +320,35 @@ pub enum Built {
 }
 
 // What a mention of an id finds in its table.
-#[derive(Drop)]
+#[derive(Clone, Copy)]
 pub enum Mentioned {
     Inside,
     InvalidResource,
 }
 
 // What judging an instance finds.
-#[derive(Drop)]
+#[derive(Clone, Copy)]
 pub enum CheckedInstance {
     Fine,
     Refused(BuildAccelerationStructureError),
 }
 
 // What appending an instance gives: the bytes in use now, or the refusal.
-#[derive(Drop)]
+#[derive(Clone, Copy)]
 pub enum Appended {
     InUse(usize),
     Refused(BuildAccelerationStructureError),
 }
 
 // What appending many instances gives: the bytes in use now, or the refusal and E, which is 0 and an instance's position.
-#[derive(Drop)]
+#[derive(Clone, Copy)]
 pub enum AppendedMany {
     InUse(usize),
     Refused(BuildAccelerationStructureError, usize, usize),
 }
 
 // Why instance records are not read back.
-#[derive(Drop)]
+#[derive(Clone, Copy)]
 pub enum ReadInstancesError {
     UnevenLength,
     WordNotZero,
@@ -355,42 +357,42 @@ pub enum ReadInstancesError {
 }
 
 // What reading instances back came to: how many bytes were written, or the refusal and its record.
-#[derive(Drop)]
+#[derive(Clone, Copy)]
 pub enum InstancesRead {
     Written(usize),
     Refused(ReadInstancesError, usize),
 }
 
 // What a Blas declares for a geometry, if it does.
-#[derive(Drop)]
+#[derive(Clone, Copy)]
 pub enum Declared {
     Missing,
     Given(BlasGeometrySizeDescriptor),
 }
 
 // The buffer of an id that may be none.
-#[derive(Drop)]
+#[derive(Clone, Copy)]
 pub enum GivenBuffer {
     Absent,
     Given(Buffer),
 }
 
 // Bytes of a buffer that are to be initialised.
-#[derive(Drop)]
+#[derive(Clone, Copy)]
 pub struct Range {
     pub buffer: BufferId,
     pub start: u64,
     pub end: u64,
 }
 
-#[derive(Drop)]
+#[derive(Clone, Copy)]
 pub enum Asked {
     Nothing,
     Of(Range),
 }
 
 // What the checks of a geometry find: the ranges asked for, or the first refusal.
-#[derive(Drop)]
+#[derive(Clone, Copy)]
 pub enum CheckedGeometry {
     Fine {
         data: Range,
@@ -402,7 +404,7 @@ pub enum CheckedGeometry {
 
 // Why a submission is refused. The Rust's names, and those that the paper adds: where the Rust panics, ids and values of lent tables and
 // lists, room. The Rust has `UsedUnbuiltBlas` for a use too, with the Tlas first.
-#[derive(Drop)]
+#[derive(Clone, Copy)]
 pub enum ValidateAsActionsError {
     TooMany,
     InvalidValue,
@@ -418,7 +420,7 @@ pub enum ValidateAsActionsError {
 }
 
 // What a submission comes to: accepted, or the first refusal with its action; and the counter that is left.
-#[derive(Drop)]
+#[derive(Clone, Copy)]
 pub enum Submitted {
     Accepted(u64),
     Refused(ValidateAsActionsError, usize, u64),
@@ -426,7 +428,7 @@ pub enum Submitted {
 
 // The counter of Builds steps where it lies; the submission index never moves.
 #[repr(C)]
-#[derive(Drop)]
+#[derive(Clone, Copy)]
 pub struct CommandIndices {
     pub active_submission_index: u64,
     pub next_acceleration_structure_build_command_index: u64,
@@ -434,7 +436,7 @@ pub struct CommandIndices {
 
 // What a submission came to, by the paper's numbers: number, action and two figures, 0 where it was accepted.
 #[repr(C)]
-#[derive(Drop)]
+#[derive(Clone, Copy)]
 pub struct Validated {
     pub number: u64,
     pub action: u64,
@@ -443,7 +445,7 @@ pub struct Validated {
 }
 
 // What writing a sheet's lines comes to: so many bytes written, or too few were lent.
-#[derive(Drop)]
+#[derive(Clone, Copy)]
 pub enum Reported {
     Written(usize),
     TooShort,
@@ -453,7 +455,7 @@ pub enum Reported {
 
 // What reading a sheet came to: number and place, or version, alignment, counter, and start and count of sections 1 to 9.
 #[repr(C)]
-#[derive(Drop)]
+#[derive(Clone, Copy)]
 pub struct SheetAnswer {
     pub number: u64,
     pub place: u64,
@@ -482,7 +484,7 @@ pub struct SheetAnswer {
 
 // What writing a sheet came to: number and place, and how many bytes were written.
 #[repr(C)]
-#[derive(Drop)]
+#[derive(Clone, Copy)]
 pub struct WriteAnswer {
     pub number: u64,
     pub place: u64,
@@ -491,7 +493,7 @@ pub struct WriteAnswer {
 
 // What opening groups came to: number, place, and group and item; and how many bytes were written.
 #[repr(C)]
-#[derive(Drop)]
+#[derive(Clone, Copy)]
 pub struct OpenAnswer {
     pub number: u64,
     pub place: u64,
@@ -503,7 +505,7 @@ pub struct OpenAnswer {
 // What a build came to: number, E and figures, or whether it is recorded, its scratch size and how many elements of each output
 // were written.
 #[repr(C)]
-#[derive(Drop)]
+#[derive(Clone, Copy)]
 pub struct BuildAnswer {
     pub number: u64,
     pub e0: u64,
@@ -524,7 +526,7 @@ pub struct BuildAnswer {
 
 // What appending instances came to: number, E and figures; and how many bytes are in use.
 #[repr(C)]
-#[derive(Drop)]
+#[derive(Clone, Copy)]
 pub struct AppendAnswer {
     pub number: u64,
     pub e0: u64,
@@ -537,7 +539,7 @@ pub struct AppendAnswer {
 
 // What reading instances back came to: number and E; and how many bytes were written.
 #[repr(C)]
-#[derive(Drop)]
+#[derive(Clone, Copy)]
 pub struct InstancesAnswer {
     pub number: u64,
     pub e0: u64,
@@ -547,7 +549,7 @@ pub struct InstancesAnswer {
 
 // What writing a text came to: 0 or 39, and how many bytes were written.
 #[repr(C)]
-#[derive(Drop)]
+#[derive(Clone, Copy)]
 pub struct ReportAnswer {
     pub number: u64,
     pub written: u64,

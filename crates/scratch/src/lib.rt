@@ -1,11 +1,13 @@
 // Scratch sizes: roundings and sums that report where they pass 2^64 - 1, and products that stop there.
+#![tactic(auto)]
+
 ghost use Rattle.std.specs.Prelude.{◌≡◌, true, ◌+◌, ◌*◌, ◌≤◌, ltb};
 ghost use Rattle.scratch.specs.Scratch.{stopped, round_up, reported, add_rounded, power_of_two};
 
 const MAX: u64 = 18446744073709551615;
 
 // What a rounding, or a sum with one, comes to, if it does not pass 2^64 - 1.
-#[derive(Drop)]
+#[derive(Clone, Copy)]
 pub enum Rounding {
     Rounded(u64),
     Passed,
