@@ -1,4 +1,6 @@
 // The paper's number of each cause, with its figures: what the definitions in ray_tracing/specs/Causes.antt say, as code.
+#![tactic(auto)]
+
 ghost use Rattle.std.specs.Prelude.{◌≡◌};
 ghost use Rattle.ray_tracing.specs.Causes.{sheet_number, instances_number, sorted, cause, running_total, build_cause, submission_cause};
 ghost use Rattle.causes.specs.Figures.{cause_of, plainly};
@@ -9,7 +11,7 @@ use ray_tracing::{
 };
 
 // A cause's number and its figures; those that a refusal lacks are 0.
-#[derive(Drop)]
+#[derive(Clone, Copy)]
 pub struct Figures {
     pub number: u64,
     pub first: u64,

@@ -5,9 +5,8 @@ use Prim.Native.Nat.{ℕ, zero, suc, ◌+◌, ◌/◌, ◌^◌, ◌≤◌, ◌<�
 use native.Mathlib.Omega.{arith}
 use lib.ListN.{length}
 use lib.Seq.{sets}
-use mathlib.Core.Bool.{Bool, true, false}
-use lib.Dec.{leb}
-use borrow.Author.Tests.{le-leb, lt-leb, lt-ltb, leb-true, leb-false, eq-eqb, ne_eqb}
+use mathlib.Core.Bool.{true, false}
+use borrow.Author.Tests.{le-leb, lt-leb, lt-ltb, eq-eqb, ne_eqb}
 use Rattle.ray_tracing.specs.declared.Tlas.{Tlas}
 use Rattle.ray_tracing.specs.declared.Blas.{Blas}
 use Rattle.ray_tracing.specs.declared.TlasId.{TlasId}
@@ -19,7 +18,7 @@ use Rattle.ray_tracing.specs.Guard.{refuse}
 use Rattle.ray_tracing.specs.Records.{field_at}
 use Rattle.ray_tracing.specs.Causes.{Cause, bare, build_cause}
 use Rattle.ray_tracing.specs.Mentions.{◌else◌, blas_mention, tlas_mention, blas_of, tlas_of}
-use Rattle.ray_tracing.specs.Instances.{instance_bytes, returns_vertices, instance_rule, named_instance_rule, address_for, slot_mention, slot_rule, Appending, in_use, refused, named_tlas_rule, room_rule, outcome, append_rule, bytes_after, append_bytes}
+use Rattle.ray_tracing.specs.Instances.{instance_bytes, returns_vertices, instance_rule, named_instance_rule, address_for, slot_mention, slot_rule, Appending, refused, named_tlas_rule, room_rule, outcome, append_rule, bytes_after, append_bytes}
 use Rattle.ray_tracing.specs.Plan as plan
 use Rattle.ray_tracing.specs.Plan.{at_e}
 use Rattle.ray_tracing.specs.Code.{instance_cause, instance_verdict}

@@ -1,4 +1,6 @@
 // Instances of a Tlas: judged, appended one by one, and those of a build's slots.
+#![tactic(auto)]
+
 ghost use Rattle.std.specs.Prelude.{◌≡◌, cond, ℕ, ◌+◌, ◌*◌, ◌/◌, ◌≤◌, ◌<◌, length};
 ghost use Rattle.std.proofs.lemmas.List.Edits.{sets};
 ghost use Rattle.ray_tracing.specs.Layout.{size};
@@ -158,7 +160,8 @@ pub fn check_slot(tlas: Tlas, blases: &[u8], slots: &[u8], at: usize) -> Checked
 
 // Writes what the slot at a place writes, from index end on, and returns the index past it.
 fn put_slot(blases: &[u8], slots: &[u8], at: usize, instances: &mut [u8], end: usize) -> usize
-    requires size_in_bounds { (at + size 8 ≤ length slots.now) × (end + length (slot_bytes blases.now slots.now at) ≤ length instances.old) }
+    requires size_in_bounds { (at + size 8 ≤ length slots.now)
+        × (end + length (slot_bytes blases.now slots.now at) ≤ length instances.old) }
     requires writable { (field_at 8 slots.now at 0 ≡ 0 → ⊥)
         → Writable blases.now (field_at 8 slots.now at 1) (field_at 8 slots.now at 2) }
     ensures value { result ≡ end + length (slot_bytes blases.now slots.now at) }

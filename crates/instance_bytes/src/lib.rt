@@ -1,4 +1,6 @@
 // An instance of a Tlas: read from a slot's fields and written as them, and as the 64 bytes of VkAccelerationStructureInstanceKHR.
+#![tactic(auto)]
+
 ghost use Rattle.std.specs.Prelude.{◌≡◌, map, ◌+◌, ◌-◌, ◌^◌, ◌≤◌, ◌<◌, length};
 ghost use Rattle.std.proofs.lemmas.List.Edits.{sets};
 ghost use Rattle.std.specs.Float.{binary32};
@@ -27,7 +29,7 @@ const MASK_UNIT: u32 = 16777216;
 const RECORD_CUSTOM_DATA: usize = 48;
 
 // A number, and the pattern that it was read from where that is a NaN's, else 0.
-#[derive(Drop)]
+#[derive(Clone, Copy)]
 pub struct Number {
     pub value: f32,
     pub nan_bits: u32,
@@ -71,7 +73,7 @@ fn bits_of_number(value: f32, nan_bits: u32) -> u32
 }
 
 // Twelve numbers, and beside each that is a NaN the pattern it was read from.
-#[derive(Drop)]
+#[derive(Clone, Copy)]
 pub struct Numbers {
     pub values: [f32; 12],
     pub nan_bits: [u32; 12],

@@ -1,4 +1,6 @@
 // Which Blas stands at an address: up to 128 Blases are indexed by their addresses once; a longer table is scanned.
+#![tactic(auto)]
+
 ghost use Rattle.std.specs.Prelude.{◌≡◌, ◌/◌, ◌<◌, length};
 ghost use Rattle.ray_tracing.specs.Layout.{size};
 ghost use Rattle.ray_tracing.specs.Mentions.{blas_of};
@@ -15,7 +17,7 @@ pub const MOST_INDEXED: usize = 128;
 pub const BUCKETS: usize = 257;
 
 // The Blas that stands at an address.
-#[derive(Drop)]
+#[derive(Clone, Copy)]
 pub enum Found {
     One(BlasId),
     NoneOrSeveral,
@@ -23,7 +25,7 @@ pub enum Found {
 
 // For each bucket the number of Blases up to its last one, and for each Blas the number up to the last before it in its bucket; 0
 // where there is none.
-#[derive(Drop)]
+#[derive(Clone, Copy)]
 pub struct BlasIndex {
     pub last: [u8; BUCKETS],
     pub before: [u8; MOST_INDEXED],

@@ -1,4 +1,6 @@
 // Instances read back from the 64-byte records of VkAccelerationStructureInstanceKHR: judged whole, then written in one pass.
+#![tactic(auto)]
+
 ghost use Rattle.std.specs.Prelude.{◌≡◌, ◌+◌, ◌*◌, ◌%◌, ◌≤◌, length, ltb};
 ghost use Rattle.std.proofs.lemmas.List.Edits.{sets};
 ghost use Rattle.ray_tracing.specs.Guard.{neb};
@@ -146,7 +148,8 @@ fn put_item(
     items: &mut [u8],
 )
     requires indexed { Indexed blases.now last.now before.now }
-    requires record_size_in_bounds { (k * record_size + record_size ≤ length records.now) × (k * lent_size + lent_size ≤ length items.old) }
+    requires record_size_in_bounds { (k * record_size + record_size ≤ length records.now)
+        × (k * lent_size + lent_size ≤ length items.old) }
     ensures { items.new
         ≡ sets items.old (k * lent_size) (lent_bytes (read_instance records.now blases.now k)) }
 {

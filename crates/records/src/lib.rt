@@ -1,5 +1,7 @@
 // A record of a lent table by value, a mention of one, and what an entry or a package names and draws: what the definitions in
 // ray_tracing/specs/Records.antt and Mentions.antt say.
+#![tactic(auto)]
+
 ghost use Rattle.std.specs.Prelude.{◌≡◌, ◌+◌, ◌*◌, ◌/◌, ◌≤◌, ◌<◌, length};
 ghost use Rattle.wire.specs.Wire.{le_at};
 ghost use Rattle.ray_tracing.specs.Layout.{offset_width, size, size_in};

@@ -1,8 +1,0 @@
--- `records::buffer_mention` meets its contract: the test decides.
-use borrow.Author.Rules.{rules}
-use Rattle.ray_tracing.proofs.Guard.{guards}
-use Rattle.records.proofs.buffer_mention.Statement.{statement}
-use Rattle.records.proofs.buffer_mention.Tie as tie
-
-pub buffer_mention_spec : {M : Type 1} → statement M
-buffer_mention_spec = tie.close (tie.spec (λ c. search rules) (λ c. search guards depth 16) (λ c. search guards depth 16))
