@@ -1,4 +1,6 @@
 // The sheet's reader: the header, then section after section from the start on.
+#![tactic(auto)]
+
 ghost use Rattle.std.specs.Prelude.{◌≡◌, ◌+◌, ◌≤◌, ◌<◌, length};
 ghost use Rattle.ray_tracing.specs.Reading.{judge_section, read_sheet};
 ghost use Rattle.ray_tracing.specs.Causes.{reading_of};
@@ -13,7 +15,7 @@ use sheet_sections::judge_section;
 use wire::{u8_at, u16_at, u32_at, u64_at};
 
 // What stands where a section's count should.
-#[derive(Drop)]
+#[derive(Clone, Copy)]
 pub enum Counted {
     Records(u16),
     Truncated,
@@ -31,9 +33,9 @@ fn count_at(sheet: &[u8], at: usize) -> Counted
     Counted::Records(u16_at(sheet, at))
 }
 
-// A sheet and the place of a section's count in it. Proofs over a struct that holds a slice are by hand, so its functions only take it
-// apart.
-#[derive(Drop)]
+// A sheet and the place of a section's count in it. Its functions only take it apart: the work is done by functions on the slice and the
+// number.
+#[derive(Clone, Copy)]
 pub struct SectionReader<'a> {
     pub sheet: &'a [u8],
     pub at: usize,

@@ -1,4 +1,6 @@
 // Unused fields made zero where their records stand.
+#![tactic(auto)]
+
 ghost use Rattle.std.specs.Prelude.{◌≡◌, Bool, true, ◌+◌, ◌-◌, ◌*◌, ◌/◌, ◌≤◌, ◌<◌, length, drop, replicate};
 ghost use mathlib.Core.List.{map, flatten};
 ghost use Rattle.std.proofs.lemmas.List.Edits.{sets};

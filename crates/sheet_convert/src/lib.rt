@@ -1,4 +1,6 @@
 // The converters: a sheet of one version as one of the other. All is judged before anything is written.
+#![tactic(auto)]
+
 ghost use Rattle.std.specs.Prelude.{◌≡◌, ◌+◌, ◌*◌, ◌^◌, ◌≤◌, ◌<◌, length, take, drop, ltb};
 ghost use Rattle.std.proofs.lemmas.List.Edits.{sets};
 ghost use Rattle.wire.specs.Wire.{le_at, le_bytes};
@@ -50,7 +52,7 @@ fn put_offset(version: Version, out: &mut [u8], at: usize, offset: u64)
 }
 
 // What judging the offsets of geometries finds: that all fit, or the place of the first that does not.
-#[derive(Drop)]
+#[derive(Clone, Copy)]
 pub enum Offsets {
     Fit,
     TooFar(usize),

@@ -1,12 +1,11 @@
 -- The code's table of fields says what the layout says, and judging by it is judging by the layout: of a record that is whole, up to its
 -- last field that has a rule.
-use Prim.Native.Nat.{ℕ, zero, suc, ◌+◌, ◌-◌, ◌*◌, ◌/◌, ◌%◌, ◌≤◌, ◌<◌}
-use native.Mathlib.Nat.{div-zero, le-div_iff_mul-le}
+use Prim.Native.Nat.{ℕ, suc, ◌+◌, ◌-◌, ◌*◌, ◌/◌, ◌%◌, ◌≤◌, ◌<◌}
 use native.Mathlib.Omega.{arith}
-use mathlib.Core.Bool.{Bool, true, false, not, ◌&&◌, ◌||◌, cond}
+use mathlib.Core.Bool.{Bool, true, false, not, cond}
 use mathlib.Core.Path.{◌≡◌, refl, sym, ap, ◌∙◌}
 use mathlib.Core.List.{List, [], ◌∷◌, ◌++◌, map}
-use lib.Dec.{eqb, ltb, leb, T}
+use lib.Dec.{ltb, leb, T}
 use lib.ListN.{length, get_or, set, get_or-eq_default}
 use borrow.Author.Tests.{ne_eqb, eqb-true, le-ltb, lt-ltb, ltb-true, leb-true}
 use Rattle.wire.specs.Wire.{le_at}

@@ -1,4 +1,6 @@
 // Records judged field by field, by one table of fields.
+#![tactic(auto)]
+
 ghost use Rattle.std.specs.Prelude.{◌≡◌, true, false, ℕ, ◌+◌, ◌-◌, ◌*◌, ◌/◌, ◌%◌, ◌≤◌, ◌<◌, List, length, get_or};
 ghost use Rattle.wire.specs.Wire.{le_at};
 ghost use Rattle.ray_tracing.specs.Layout.{layout_in, size_in, offset_width};

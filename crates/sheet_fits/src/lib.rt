@@ -1,4 +1,6 @@
 // Whether a whole record's values are in their fields, by its section: the answer for nearly every record, without a walk over its fields.
+#![tactic(auto)]
+
 ghost use Rattle.std.specs.Prelude.{◌≡◌, Bool, List, ℕ, ◌+◌, ◌/◌, ◌≤◌, ◌<◌, length};
 ghost use Rattle.ray_tracing.specs.declared.Version.{Version};
 ghost use Rattle.ray_tracing.specs.Layout.{Seen, size, size_in};

@@ -1,4 +1,6 @@
 // The layout's numbers as code: a section's record size, the most records that it may have, and counts that add up.
+#![tactic(auto)]
+
 ghost use Rattle.std.specs.Prelude.{◌≡◌, ◌+◌, ◌/◌, ◌≤◌, ◌<◌, length, eqb};
 ghost use Rattle.ray_tracing.specs.Layout.{layout, size, size_in};
 ghost use Rattle.ray_tracing.specs.Reading.{sum_of_counts, adds_up, version_in};

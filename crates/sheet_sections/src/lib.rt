@@ -1,4 +1,6 @@
 // A section judged: its count, and its records one after the other. The same judging for a lent table that stands for a section.
+#![tactic(auto)]
+
 ghost use Rattle.std.specs.Prelude.{◌≡◌, ◌+◌, ◌-◌, ◌/◌, ◌≤◌, ◌<◌, length};
 ghost use Rattle.ray_tracing.specs.Layout.{layout_in, size, size_in};
 ghost use Rattle.ray_tracing.specs.Reading.{judge_drawn, judge_table, judge_lent, judge_section};

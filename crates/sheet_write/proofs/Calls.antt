@@ -6,7 +6,7 @@ use lib.ListN.{length}
 use lib.Seq.{sets}
 use borrow.Author.Tests.{lt-ltb, le-ltb}
 use Rattle.ray_tracing.specs.declared.Sheet.{Sheet}
-use Rattle.ray_tracing.specs.Reading.{fine, accepted, rejected, answer, read_sheet, judge_sheet}
+use Rattle.ray_tracing.specs.Reading.{fine, accepted, rejected, read_sheet, judge_sheet}
 use Rattle.ray_tracing.specs.Canonical.{canonical, wrote, unwritten, write_rule, WritesSheet}
 use Rattle.ray_tracing.proofs.Instances.{Below}
 use Rattle.ray_tracing.proofs.Sheets.{accepted_judged}

@@ -1,4 +1,6 @@
 // The canonical writer: what the reader accepted, section after section.
+#![tactic(auto)]
+
 ghost use Rattle.std.specs.Prelude.{◌≡◌, ◌+◌, ◌-◌, ◌/◌, ◌≤◌, ◌<◌, length};
 ghost use Rattle.std.proofs.lemmas.List.Edits.{sets};
 ghost use Rattle.ray_tracing.specs.Layout.{layout, layout_in, size, size_in};
@@ -34,7 +36,8 @@ fn write_declared(version: Version, out: &mut [u8], at: usize, table: &[u8], bla
 }
 
 fn write_geometries(version: Version, out: &mut [u8], at: usize, table: &[u8], entries: &[u8])
-    requires { (at + length table.now ≤ length out.old) × (judge_lent 6 (layout_in version 6) (size 5) entries.now table.now ≡ fine) }
+    requires { (at + length table.now ≤ length out.old)
+        × (judge_lent 6 (layout_in version 6) (size 5) entries.now table.now ≡ fine) }
     ensures { out.new ≡ sets out.old at (canonical_table version 6 entries.now table.now) }
 {
     put_bytes(out, at, table);
