@@ -1,4 +1,6 @@
 // Groups of slots, opened: the slots of the last group, in written order, as records of section 8.
+#![tactic(auto)]
+
 ghost use Rattle.std.specs.Prelude.{◌≡◌, ◌+◌, ◌*◌, ◌≤◌, length, take, drop};
 ghost use Rattle.std.proofs.lemmas.List.Edits.{sets};
 ghost use Rattle.ray_tracing.specs.Layout.{size};

@@ -9,15 +9,12 @@ use lib.Dec.{ltb}
 use lib.ListN.{length, get_or, set, replicate}
 use lib.Seq.{get_or-set_same, get_or-set_other}
 use borrow.Author.Count.{below_more}
-use types.Run.{OneOf, miss}
-use denote.Enum.Declared.{tag_of}
 use borrow.Author.Tests.{eq-eqb, ne_eqb, lt-ltb, le-ltb}
 use Rattle.wire.specs.Wire.{le_at}
 use Rattle.ray_tracing.specs.Layout.{Seen, Field, layout, total, wide, always, present, any}
 use Rattle.ray_tracing.specs.declared.Judged as code
 use Rattle.ray_tracing.specs.Code.{judged_of as record_judged}
 use Rattle.ray_tracing.specs.Reading as reading
-use Rattle.ray_tracing.specs.contracts.GroupsJudged as T
 use Rattle.ray_tracing.specs.declared.GroupsJudged.{GroupsJudged}
 use Rattle.ray_tracing.specs.declared.GroupsJudged.TheVariants as groups-judged
 use Rattle.groups_judge.specs.Found.{finding_of, ended_at, Began}
@@ -95,10 +92,10 @@ module _ (s : List ℕ) (g i at : ℕ) where
 
 -- the code has seen that something is refused: then it is so whatever follows, and ends nowhere
 abbrev pub Refusal : GroupsJudged → Type 0
-Refusal r = OneOf (1 ∷ 2 ∷ []) (tag_of T.the_type r)
+Refusal r = (p : ℕ) → ¬ (r ≡ groups-judged.EndsAt p)
 
 stops : (r : GroupsJudged) (j next : Finding) (e : ℕ) → Refusal r → finding_of r ≡ j → Finds r (j and_then next) e
-stops (groups-judged.EndsAt p) j next e k f = absurd (miss (1 ∷ 2 ∷ []) 0 tt k)
+stops (groups-judged.EndsAt p) j next e k f = absurd (k p refl)
 stops (groups-judged.Refused n p) j next e k f = (rw (← f), refl)
 stops (groups-judged.InvalidGroup g i) j next e k f = (rw (← f), refl)
 
@@ -180,7 +177,7 @@ module _ (s : List ℕ) where
   refuses starts e = (sym e, λ f. absurd (refused_not_fine (sym e ∙ f)))
 
   refuses_by : (r : GroupsJudged) (starts : List ℕ) → Refusal r → finding_of r ≡ judge_groups s → Answers r starts
-  refuses_by (groups-judged.EndsAt p) starts k e = absurd (miss (1 ∷ 2 ∷ []) 0 tt k)
+  refuses_by (groups-judged.EndsAt p) starts k e = absurd (k p refl)
   refuses_by (groups-judged.Refused n p) starts k e = refuses starts (sym e)
   refuses_by (groups-judged.InvalidGroup g i) starts k e = refuses starts (sym e)
 

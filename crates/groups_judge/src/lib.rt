@@ -1,4 +1,6 @@
 // Groups of slots judged from the start on, and where each of them begins.
+#![tactic(auto)]
+
 ghost use Rattle.std.specs.Prelude.{◌≡◌, false, [], ◌+◌, ◌≤◌, length};
 ghost use Rattle.wire.specs.Wire.{le_at};
 ghost use Rattle.ray_tracing.specs.Layout.{size};

@@ -1,6 +1,8 @@
 // Opening a group and opening an item call on each other until only slots are left: the group's number falls at each nested group, and the
 // items left fall within one. Each group opens to a slot at least (`each_opens` of `groups`), and the 513th slot ends it: so at most 513 slots
 // are reached, each through at most 64 groups, however many slots the groups name.
+#![tactic(auto)]
+
 ghost use Rattle.std.specs.Prelude.{◌≡◌, ◌+◌, ◌≤◌, ◌<◌, length};
 ghost use Rattle.ray_tracing.specs.Groups.{fine, item_of, item_size, group_of, judge_item, open_item, open_below, open_group};
 ghost use Rattle.groups_open.specs.Places.{counted, placed, JudgedFine};
@@ -9,7 +11,7 @@ use ray_tracing::{MOST_SLOTS, NAME_SIZE, SLOT_SIZE};
 use wire::{u8_at, u16_at};
 
 // How many slots there are, or the group and the item of the first that is too many.
-#[derive(Drop)]
+#[derive(Clone, Copy)]
 pub enum Opened {
     Slots(usize),
     Full(usize, usize),

@@ -1,0 +1,10 @@
+-- `groups::put_slot` meets its contract. The invariant: the first k numbers of 8 bytes are copied.
+use Rattle.std.proofs.Common.{◌≡◌, ◌-◌, ◌*◌, ◌≤◌, take, drop}
+use lib.Seq.{sets}
+use Rattle.groups.proofs.put_slot.Given as goal
+
+abbrev pub invariant-loop-k : goal.invariant-loop-k
+invariant-loop-k l = (l.slots ≡ sets l.initial.slots l.to (take (8 * l.k) (drop l.at l.groups))) × (l.k ≤ 7)
+
+abbrev pub decreases-loop-k : goal.decreases-loop-k
+decreases-loop-k l = 7 - l.k
