@@ -1,4 +1,6 @@
 // A build: all is judged before anything is written, so that a refusal changes no lent byte.
+#![tactic(auto)]
+
 ghost use Rattle.std.specs.Prelude.{◌≡◌, []};
 ghost use Rattle.ray_tracing.specs.Plan.{Outputs, tables_of, outputs_of, counts_of, build, building_of, leaves, Builds};
 ghost use Rattle.build.specs.Room.{short_of, recorded_if, nothing_if, plan_from, Writes};

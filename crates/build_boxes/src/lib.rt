@@ -1,4 +1,6 @@
 // The checks of a geometry of boxes, in wgpu-core's order: against what its Blas declares, then the buffer that it names.
+#![tactic(auto)]
+
 ghost use Rattle.std.specs.Prelude.{◌≡◌, ◌||◌, ◌+◌, ◌*◌, ltb};
 ghost use Rattle.scratch.specs.Scratch.{stopped};
 ghost use Rattle.ray_tracing.specs.Checks.{limit32};

@@ -1,4 +1,6 @@
 // The checks of the buffers that a geometry of triangles names, in wgpu-core's order.
+#![tactic(auto)]
+
 ghost use Rattle.std.specs.Prelude.{◌≡◌, ◌+◌, ◌*◌, ◌≤◌, ltb};
 ghost use Rattle.scratch.specs.Scratch.{stopped};
 ghost use Rattle.ray_tracing.specs.Checks.{◌then◌};
@@ -22,13 +24,13 @@ const MAX: u64 = 18446744073709551615;
 const TRANSFORM_ALIGNMENT: u64 = 16;
 
 // What the check of a buffer finds that must be given, and of one that may be.
-#[derive(Drop)]
+#[derive(Clone, Copy)]
 pub enum Vertices {
     Fine(Range),
     Refused(Error),
 }
 
-#[derive(Drop)]
+#[derive(Clone, Copy)]
 pub enum Part {
     Fine(Asked),
     Refused(Error),

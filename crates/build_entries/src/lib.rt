@@ -1,4 +1,6 @@
 // Entries, geometries in turn: each against what its Blas declares, found by an index of section 3.
+#![tactic(auto)]
+
 ghost use Rattle.std.specs.Prelude.{◌≡◌, [], ℕ, ◌+◌, ◌*◌, ◌/◌, ◌≤◌, ◌<◌, length};
 ghost use Rattle.ray_tracing.specs.Layout.{layout, size};
 ghost use Rattle.ray_tracing.specs.Mentions.{buffer_of};
@@ -34,7 +36,7 @@ const MOST_DECLARED: usize = 512;
 
 // For each Blas its first declared geometry, and for each declared geometry the next of the same Blas; how many there are where
 // there is none.
-#[derive(Drop)]
+#[derive(Clone, Copy)]
 pub struct DeclaredIndex {
     pub head: [u16; MOST_BLASES],
     pub next: [u16; MOST_DECLARED],
@@ -135,7 +137,8 @@ fn check_geometry_at(
     g: usize,
     at: usize,
 ) -> CheckedGeometry
-    requires geometry_inside { GeometryInside (for_entries version buffers.now blases.now declared.now entries.now geometries.now) i g }
+    requires geometry_inside { GeometryInside
+        (for_entries version buffers.now blases.now declared.now entries.now geometries.now) i g }
     requires at_value { at ≡ nth_of declared.now (entry_of (of_entries [] entries.now) i).blas.0 j }
     ensures { checked_of result
         ≡ checked_at

@@ -1,5 +1,7 @@
 // The scratch that entries and packages share, or where 37 stands; and what is judged last, before room: 21 of Tlases, then 21 and 38
 // of Blases.
+#![tactic(auto)]
+
 ghost use Rattle.std.specs.Prelude.{◌≡◌, [], ◌+◌, ◌*◌, ◌/◌, ◌≤◌, ◌<◌, max, length, eqb};
 ghost use Rattle.ray_tracing.specs.Layout.{size};
 ghost use Rattle.ray_tracing.specs.Causes.{cause, bare};
@@ -20,7 +22,7 @@ use scratch::{Rounding, add_rounded};
 const MAX: u64 = 18446744073709551615;
 
 // What the scratch of a build comes to: its size; or the first entry or package at which its running total reaches 2^64 - 1 or would pass it.
-#[derive(Drop)]
+#[derive(Clone, Copy)]
 pub enum ScratchSize {
     Size(u64),
     Reached(RunningTotal, usize),

@@ -1,4 +1,6 @@
 // Ids first: per entry each geometry's buffers, then the Blas; per package each present slot's Blas, then the Tlas.
+#![tactic(auto)]
+
 ghost use Rattle.std.specs.Prelude.{◌≡◌, cond, [], ◌+◌, ◌*◌, ◌/◌, ◌≤◌, ◌<◌, length, eqb};
 ghost use Rattle.ray_tracing.specs.Layout.{size, size_in};
 ghost use Rattle.ray_tracing.specs.Mentions.{buffer_mention};
@@ -235,8 +237,10 @@ pub fn judge_ids(
     packages: &[u8],
     slots: &[u8],
 ) -> Verdict
-    requires entries_value { drawn_before (of_entries [] entries.now) (entries_in entries.now) ≡ length geometries.now / size_in version 6 }
-    requires packages_value { slots_before (for_packages [] [] packages.now []) (packages_in packages.now) ≡ length slots.now / size 8 }
+    requires entries_value { drawn_before (of_entries [] entries.now) (entries_in entries.now)
+        ≡ length geometries.now / size_in version 6 }
+    requires packages_value { slots_before (for_packages [] [] packages.now []) (packages_in packages.now)
+        ≡ length slots.now / size 8 }
     ensures { verdict_of result
         ≡ judge_ids
         (tables_of

@@ -1,4 +1,6 @@
 // Judging a build, in the paper's order: tables, ids, entries, packages, the scratch, the final checks. Nothing is written.
+#![tactic(auto)]
+
 ghost use Rattle.std.specs.Prelude.{◌≡◌};
 ghost use Rattle.ray_tracing.specs.Code.{verdict_of};
 ghost use Rattle.ray_tracing.specs.Plan.{tables_of};
@@ -14,7 +16,7 @@ use build_tables::judge_tables;
 use ray_tracing::{BuildAccelerationStructureError, Verdict, Version, first};
 
 // What judging finds: the first refusal, with E; nothing to record; or a build to record, with its scratch size, if there is room.
-#[derive(Drop)]
+#[derive(Clone, Copy)]
 pub enum Judgement {
     Refused(BuildAccelerationStructureError, usize, usize),
     Nothing,

@@ -1,4 +1,6 @@
 // A recorded build's action: the entries' Blases, then for each package its Tlas and the Blases of its present slots.
+#![tactic(auto)]
+
 ghost use Rattle.std.specs.Prelude.{◌≡◌, [], ◌+◌, ◌≤◌, ◌<◌, length};
 ghost use Rattle.std.proofs.lemmas.List.Edits.{sets};
 ghost use Rattle.ray_tracing.specs.Layout.{layout};

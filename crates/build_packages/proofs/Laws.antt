@@ -12,7 +12,7 @@ use Rattle.ray_tracing.specs.Causes.{cause}
 use Rattle.ray_tracing.specs.Mentions.{blas_mention}
 use Rattle.ray_tracing.specs.Instances.{present_of, slot_mention, slot_rule}
 use Rattle.ray_tracing.specs.Layout.{size}
-use Rattle.ray_tracing.specs.Plan.{Tables, Verdict, passed, refused, on, ◌or◌, at_e, first_of, slot_count, slot_present, slot_blas, tlas_of_package, judge_package}
+use Rattle.ray_tracing.specs.Plan.{Tables, Verdict, refused, on, ◌or◌, at_e, first_of, slot_count, slot_present, slot_blas, tlas_of_package, judge_package}
 use Rattle.ray_tracing.specs.Parts.{for_packages}
 
 -- a slot whose Blas is inside if it is present is not refused for it

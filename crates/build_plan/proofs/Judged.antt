@@ -2,19 +2,18 @@
 use mathlib.Core.Path.{◌≡◌, refl, sym, ap}
 use mathlib.Core.Bool.{Bool, true, false, cond}
 use mathlib.Core.List.{List, [], ◌∷◌, ◌++◌}
-use Prim.Native.Nat.{ℕ, zero, suc, ◌+◌, ◌-◌, ◌*◌, ◌/◌, ◌%◌, ◌^◌, ◌≤◌, ◌<◌}
+use Prim.Native.Nat.{ℕ, zero, suc, ◌+◌, ◌-◌, ◌*◌, ◌/◌, ◌%◌, ◌≤◌, ◌<◌}
 use native.Mathlib.Nat.{zero-add, add-zero, not-suc-le-zero}
 use native.Mathlib.Numerals.{add-one}
 use native.Mathlib.Omega.{arith}
 use lib.Dec.{eqb, ltb}
 use lib.ListN.{get_or}
-use borrow.Author.Tests.{ne_eqb, leb-false, ltb-true, ltb-false}
+use borrow.Author.Tests.{ne_eqb, ltb-true, ltb-false}
 use Rattle.ray_tracing.specs.Records.{field_at}
 use Rattle.instance.specs.Writable.{Writable}
-use Rattle.ray_tracing.specs.Guard.{refuse}
 use Rattle.ray_tracing.specs.Instances.{present_of, slots_bytes}
-use Rattle.ray_tracing.specs.Plan.{Tables, passed, records_in, entry_of, geometry_of, geometry_count, slot_count, slot_present, blas_of_entry, checked_at, checked_e, asked, judge_entry, judge_entries, judge_slot, judge_package, judge_packages, judge_scratch, blas_scratch, tlas_scratch, offsets_from, staging_from, ranges_of_entry, ranges_from, compactable_from, entry_blases, package_lists, plan_of}
-use Rattle.ray_tracing.proofs.Verdicts.{or-passed, none-at_e, none-cond, each-passed, each-drawing}
+use Rattle.ray_tracing.specs.Plan.{Tables, passed, records_in, entry_of, geometry_of, geometry_count, slot_count, slot_present, blas_of_entry, checked_at, checked_e, asked, judge_entry, judge_entries, judge_packages, judge_scratch, blas_scratch, tlas_scratch, offsets_from, staging_from, ranges_of_entry, ranges_from, compactable_from, entry_blases, package_lists, plan_of}
+use Rattle.ray_tracing.proofs.Verdicts.{each-passed, each-drawing}
 use Rattle.ray_tracing.proofs.Running.{totals_below}
 use Rattle.ray_tracing.proofs.Inside.{Inside, drawn_before, drawn-none, drawn_more, slots_before, slots-none, slots_more}
 use Rattle.ray_tracing.specs.Parts.{of_entries, of_packages}

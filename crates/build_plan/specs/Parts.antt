@@ -10,7 +10,8 @@ use Rattle.instance.specs.Writable.{Writable}
 use Rattle.build_lists.specs.Lists.{slots_in}
 
 abbrev pub blas_offsets_of : ℕ → List ℕ → List ℕ → List ℕ
-blas_offsets_of alignment blases entries = offsets_from (blas_scratch (of_entries blases entries)) alignment 0 0 (entries_in entries)
+blas_offsets_of alignment blases entries =
+    offsets_from (blas_scratch (of_entries blases entries)) alignment 0 0 (entries_in entries)
 
 -- no total of those passes 2^64 - 1
 abbrev pub BlasBelow : ℕ → List ℕ → List ℕ → Type 0

@@ -1,5 +1,7 @@
 // What a recorded build writes, one function for each lent output, and how many elements each output takes. Its initialisation
 // ranges are written by `build_ranges`, its recorded action by `build_lists`.
+#![tactic(auto)]
+
 ghost use Rattle.std.specs.Prelude.{◌≡◌, [], ◌+◌, ◌*◌, ◌≤◌, ◌<◌, length};
 ghost use Rattle.std.proofs.lemmas.List.Edits.{sets};
 ghost use Rattle.ray_tracing.specs.Plan.{counts_of, written, outputs_of};

@@ -1,4 +1,6 @@
 // The tables that a build is lent, judged first: the scratch alignment, then sections 1 to 8 in turn.
+#![tactic(auto)]
+
 ghost use Rattle.std.specs.Prelude.{◌≡◌, ◌-◌, ◌≤◌, ◌<◌, eqb};
 ghost use Rattle.ray_tracing.specs.Layout.{layout_in, size_in};
 ghost use Rattle.ray_tracing.specs.Reading.{judge_lent};

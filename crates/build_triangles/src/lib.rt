@@ -1,4 +1,6 @@
 // The checks of a geometry of triangles, in wgpu-core's order: against what its Blas declares, then the buffers that it names.
+#![tactic(auto)]
+
 ghost use Rattle.std.specs.Prelude.{◌≡◌, ◌%◌};
 ghost use Rattle.ray_tracing.specs.Guard.{neb};
 ghost use Rattle.ray_tracing.specs.Checks.{◌then◌};
@@ -14,7 +16,7 @@ use ray_tracing::{
 };
 
 // Whether the sizes given are within those declared.
-#[derive(Drop)]
+#[derive(Clone, Copy)]
 pub enum Sizes {
     Match,
     Refused(Error),
@@ -131,7 +133,8 @@ pub fn check_triangles(
     index: GivenBuffer,
     transform: GivenBuffer,
 ) -> CheckedGeometry
-    ensures { checked_of result ≡ triangles_rule blas (declared_given declared) g vertices (buffer_given index) (buffer_given transform) }
+    ensures { checked_of result
+        ≡ triangles_rule blas (declared_given declared) g vertices (buffer_given index) (buffer_given transform) }
 {
     if blas.kind != 0 {
         return CheckedGeometry::Refused(Error::BlasGeometryKindMismatch);
