@@ -1,4 +1,6 @@
 // `validate_acceleration_structure_actions`: the start is judged, then the actions in turn.
+#![tactic(auto)]
+
 ghost use Rattle.std.specs.Prelude.{◌≡◌};
 ghost use Rattle.ray_tracing.specs.Submission.{buffers_of, piece_of, answer_of, answer_numbers, counter_of, Submits, Validates};
 ghost use Rattle.submit.specs.Told.{numbers_in, Tells};
@@ -47,7 +49,7 @@ pub fn submit(
 }
 
 // What a submission came to, by the paper's numbers: number, action and two figures, 0 where it was accepted; and the counter.
-#[derive(Drop)]
+#[derive(Clone, Copy)]
 pub struct Numbered {
     pub number: u64,
     pub action: u64,

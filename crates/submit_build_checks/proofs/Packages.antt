@@ -12,7 +12,7 @@ use lib.Dec.{ltb}
 use lib.ListN.{length, get_or, length-take, length-drop}
 use borrow.Author.Tests.{le-leb, lt-leb, lt-ltb, le-ltb}
 use Rattle.ray_tracing.specs.Causes.{Cause, bare}
-use Rattle.ray_tracing.specs.Submission.{Package, cause_when, ◌or_else◌, first, package_from, past_package, packages_at, packages_lent, too_many, most_dependencies}
+use Rattle.ray_tracing.specs.Submission.{Package, cause_when, first, package_from, past_package, packages_at, packages_lent, too_many, most_dependencies}
 
 pub packages-step : (lists : List ℕ) (at n : ℕ) → 0 < n → packages_at lists at n ≡ package_from lists at ∷ packages_at lists (past_package lists at) (n - 1)
 unfolding packages_at

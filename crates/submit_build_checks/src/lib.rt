@@ -1,4 +1,6 @@
 // What is judged before a Build acts: 5 of its lists, then 4, 6, 40, 41.
+#![tactic(auto)]
+
 ghost use Rattle.std.specs.Prelude.{◌≡◌, true, [], ◌+◌, ◌^◌, ◌≤◌, ◌<◌, length};
 ghost use Rattle.ray_tracing.specs.Submission.{first, ◌or_else◌, mention_blas, mention_package, too_many, compacted, before, lent_of};
 ghost use Rattle.ray_tracing.specs.Submission.{package_from, past_package, packages_at, packages_lent, build, build_at};

@@ -1,4 +1,6 @@
 // What the actions of a submission are judged by over lent tables, and what one of them comes to.
+#![tactic(auto)]
+
 ghost use Rattle.std.specs.Prelude.{◌≡◌, [], ◌<◌};
 ghost use Rattle.ray_tracing.specs.Submission.{blas, first, mention_blas, mention_tlas};
 ghost use Rattle.submit_checks.specs.Outcome.{tables_only, blases_of, checked_cause, submitted_of};
@@ -8,7 +10,7 @@ use ray_tracing::{BLAS_SIZE, Blas, BlasId, Mentioned, Submitted, TlasId, Validat
 use records::{blas_at, blas_mention, tlas_mention};
 
 // What judging finds: nothing to refuse, or the first refusal.
-#[derive(Drop)]
+#[derive(Clone, Copy)]
 pub enum Checked {
     Fine,
     Refused(ValidateAsActionsError),

@@ -17,7 +17,6 @@ use Rattle.ray_tracing.specs.Submission.{Lent, Action, malformed, decode_cells, 
 use Rattle.ray_tracing.proofs.Decode.{decode_part, decode_done}
 use Rattle.ray_tracing.proofs.Firsts.{later-later, left-later}
 use Rattle.ray_tracing.proofs.Sound.{Sound, judged, sound_submission}
-use Rattle.submit_checks.specs.declared.Checked.TheVariants.{Refused}
 use Rattle.submit_run.proofs.ByKind.{malformed-step}
 
 pub record Running (n₀ : ℕ) (b₀ t₀ c₀ d₀ actions lists : List ℕ) (number : ℕ) (b t c d : List ℕ) (at index : ℕ) : Type 0 where

@@ -1,5 +1,7 @@
 // The actions of a submission: one by its kind, a Build, a use, or a mark, which is a Build too; and in turn, to the first that is
 // refused.
+#![tactic(auto)]
+
 ghost use Rattle.std.specs.Prelude.{◌≡◌, cond, ◌+◌, ◌≤◌, length, eqb};
 ghost use Rattle.std.proofs.Math.Option.{none};
 ghost use Rattle.ray_tracing.specs.Causes.{bare};
@@ -29,7 +31,7 @@ const MARK_BUILT: u32 = 5;
 const LARGEST_ID: u32 = 65535;
 
 // The four cells of an action.
-#[derive(Drop)]
+#[derive(Clone, Copy)]
 struct Cells {
     kind: u32,
     operand: u32,

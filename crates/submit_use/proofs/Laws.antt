@@ -4,7 +4,6 @@ use mathlib.Core.Option.{Option, some}
 use Prim.Native.Nat.{ℕ}
 use borrow.Author.Tests.{eq-eqb, ne_eqb}
 use Rattle.ray_tracing.specs.declared.Tlas.{Tlas}
-use Rattle.ray_tracing.specs.Reading as reading
 use Rattle.ray_tracing.specs.Mentions.{tlas_of}
 use Rattle.ray_tracing.specs.Causes.{Cause, cause}
 use Rattle.ray_tracing.specs.Submission.{Lent, tlas, tlas_in, dependencies_of, first, unusable_blas, unusable, use_tlas, mention_tlas, before, act}

@@ -1,4 +1,6 @@
 // A use of a Tlas as an action: 6, then 43, then its list, 42, 44, 21.
+#![tactic(auto)]
+
 ghost use Rattle.std.specs.Prelude.{◌≡◌, ◌≤◌, ◌<◌, get_or};
 ghost use Rattle.std.proofs.Math.Option.{none};
 ghost use Rattle.ray_tracing.specs.Submission as Submission;
