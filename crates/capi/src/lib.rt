@@ -1,4 +1,6 @@
 // The entry points as C functions of a static library: each forwards, and says its answer in numbers.
+#![tactic(auto)]
+
 ghost use Rattle.std.specs.Prelude.{◌≡◌};
 ghost use Rattle.ray_tracing.specs.declared.Version.TheVariants as version;
 ghost use Rattle.ray_tracing.specs.Reading.{read_sheet};

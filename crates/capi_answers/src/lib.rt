@@ -1,11 +1,13 @@
 // The entry points' answers as the numbers of C structs, unused ones 0.
+#![tactic(auto)]
+
 ghost use Rattle.std.specs.Prelude.{◌≡◌};
 ghost use Rattle.ray_tracing.specs.Causes.{reading_of};
 ghost use Rattle.ray_tracing.specs.Reading.{accepted, rejected};
 ghost use Rattle.ray_tracing.specs.Canonical.{wrote, unwritten, writing_of};
 ghost use Rattle.ray_tracing.specs.Conversion.{converting_of};
 ghost use Rattle.ray_tracing.specs.Groups.{unopened, opening_of};
-ghost use Rattle.ray_tracing.specs.Plan.{recorded, nothing-recorded, not-built, building_of};
+ghost use Rattle.ray_tracing.specs.Plan.{recorded, nothing-recorded, not_built, building_of};
 ghost use Rattle.ray_tracing.specs.Instances.{appended_of};
 ghost use Rattle.ray_tracing.specs.AppendMany.{all_in_use, none_appended, appended_many_of};
 ghost use Rattle.ray_tracing.specs.ReadInstances.{instances_read_of};
@@ -207,7 +209,7 @@ fn build_nothing(ranges: u64) -> BuildAnswer
 }
 
 fn build_refused(figures: Figures, e: u64, f: u64) -> BuildAnswer
-    ensures { result ≡ built_answer (not-built e f (cause_of figures)) }
+    ensures { result ≡ built_answer (not_built e f (cause_of figures)) }
 {
     BuildAnswer {
         number: figures.number,

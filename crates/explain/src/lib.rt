@@ -1,4 +1,6 @@
 // A report with its refusal in words: a sheet's bytes in, the report's lines and the explanation out.
+#![tactic(auto)]
+
 ghost use Rattle.std.specs.Prelude.{◌+◌, ◌≤◌, length};
 ghost use Rattle.ray_tracing.specs.Report.{reported_of, Puts};
 ghost use Rattle.ray_tracing.specs.Explain.{explained};

@@ -1,5 +1,5 @@
 -- The lines of a build's answer and its refusal, from what the build left of its outputs, are those of the definition.
-use Prim.Native.Nat.{ℕ, zero, suc, ◌+◌, ◌*◌, ◌/◌, ◌≤◌, ◌<◌}
+use Prim.Native.Nat.{ℕ, zero, suc, ◌+◌, ◌*◌, ◌≤◌, ◌<◌}
 use native.Mathlib.Nat.{zero-add}
 use native.Mathlib.Omega.{arith}
 use mathlib.Core.Bool.{Bool, true, false, cond}
@@ -8,7 +8,6 @@ use mathlib.Core.List.{List, [], append_assoc, append-nil}
 use lib.ListN.{length, take, drop, get_or}
 use lib.Seq.{sets, sets-eq, take_at}
 use Rattle.ray_tracing.specs.declared.Written.{Written}
-use Rattle.ray_tracing.specs.Layout.{size}
 use Rattle.ray_tracing.specs.Plan.{
   Tables,
   Outputs,

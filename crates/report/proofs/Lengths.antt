@@ -9,12 +9,12 @@ use lib.ListN.{length, take, get_or, length-append}
 use lib.Seq.{take_all, take-take}
 use borrow.Author.Tests.{le-ltb}
 use Rattle.ray_tracing.specs.Layout.{layout, size}
-use Rattle.ray_tracing.specs.Causes.{Cause, bare}
+use Rattle.ray_tracing.specs.Causes.{bare}
 use Rattle.ray_tracing.specs.Reading.{Reading, accepted, rejected, read_sheet, table}
 use Rattle.ray_tracing.specs.Sizes.{longest, longest_report, longest_line}
 use Rattle.ray_tracing.specs.Plan.{sheet_tables, Tables, Building, recorded, nothing-recorded, not_built, records_in, entry_of, package_of, plan_of, build}
 use Rattle.ray_tracing.specs.Submission as submission
-use Rattle.ray_tracing.specs.Report.{line, word-sheet, word-build, word_scratch, word-blas, word-tlas, word_submit, word_next, blas_lines, tlas_lines, positions, sheet_outcome, submit_numbers, outcome_lines, submit_lines, build_line, answer_lines, built_lines, reading_lines, report, reporting, text_rule}
+use Rattle.ray_tracing.specs.Report.{word-sheet, word_scratch, word-blas, word-tlas, word_submit, word_next, blas_lines, tlas_lines, positions, sheet_outcome, submit_numbers, outcome_lines, submit_lines, answer_lines, built_lines, reading_lines, report, reporting, text_rule}
 use Rattle.ray_tracing.proofs.Sheets.{lent_tells, accepted-lent}
 use Rattle.ray_tracing.proofs.Longest.{prefix_decides, accepted-longest}
 use Rattle.report_text.proofs.Laws.{line-most}

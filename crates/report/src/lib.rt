@@ -1,4 +1,6 @@
 // The sheet program's text: a sheet's bytes in, the lines that are printed for it out.
+#![tactic(auto)]
+
 ghost use Rattle.std.specs.Prelude.{◌≡◌, [], ◌∷◌, ◌+◌, ◌*◌, ◌≤◌, length, take, drop};
 ghost use Rattle.ray_tracing.specs.Causes.{sheet_number};
 ghost use Rattle.ray_tracing.specs.Reading.{accepted, read_sheet};
@@ -6,7 +8,7 @@ ghost use Rattle.ray_tracing.specs.Plan.{building_of, tables_of};
 ghost use Rattle.ray_tracing.specs.Report as Report;
 ghost use Rattle.ray_tracing.specs.Report.{line, word-sheet, built_lines, reported_of, Puts};
 ghost use Rattle.ray_tracing.specs.Sizes.{longest_line, longest_report};
-ghost use Rattle.ray_tracing.specs.Explain.{of-sheet, built_refusal, refusal_in};
+ghost use Rattle.ray_tracing.specs.Explain.{of_sheet, built_refusal, refusal_in};
 ghost use Rattle.report_text.specs.Put.{Put};
 ghost use Rattle.report_words.specs.Refused.{Refuses};
 ghost use Rattle.report_submit.specs.Parts.{lent_parts, submission_outcome, Lendable};
@@ -24,7 +26,7 @@ use report_words::{Refusal, build_refusal, no_refusal, sheet_refusal};
 use sheet::read_sheet;
 
 // What a build came to, in plain values: whether it is refused or recorded, its scratch size, and the cells of its lists.
-#[derive(Drop)]
+#[derive(Clone, Copy)]
 struct Came {
     refused: bool,
     recorded: bool,
@@ -250,7 +252,7 @@ fn put_accepted(sheet: &[u8], x: Sheet, out: &mut [u8]) -> Printed
 fn put_refused(e: SheetError, place: usize, out: &mut [u8]) -> Printed
     requires { longest_line word-sheet 2 ≤ length out.old }
     ensures put { Put out.old 0 (line word-sheet (sheet_number e ∷ place ∷ [])) result.end out.new }
-    ensures refuses { Refuses result.refusal (of-sheet (sheet_number e) place) }
+    ensures refuses { Refuses result.refusal (of_sheet (sheet_number e) place) }
 {
     let refusal = sheet_refusal(e, place);
     let numbers = [refusal.number, refusal.e];

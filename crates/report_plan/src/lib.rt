@@ -1,4 +1,6 @@
 // The lines of a recorded build: `build`, `scratch`, `blas` and `tlas`.
+#![tactic(auto)]
+
 ghost use Rattle.std.specs.Prelude.{cond, [], ◌+◌, ◌*◌, ◌≤◌, ◌<◌, length};
 ghost use Rattle.ray_tracing.specs.Layout.{layout};
 ghost use Rattle.ray_tracing.specs.Causes.{cause};
@@ -70,7 +72,8 @@ fn put_tlas_lines(
     out: &mut [u8],
     at: usize,
 ) -> usize
-    requires packages_in_bounds { (packages_in packages.now ≤ length offsets.now) × (packages_in packages.now * 2 ≤ length ranges.now) }
+    requires packages_in_bounds { (packages_in packages.now ≤ length offsets.now)
+        × (packages_in packages.now * 2 ≤ length ranges.now) }
     requires word_tlas_in_bounds { at + packages_in packages.now * longest_line word-tlas 4 ≤ length out.old }
     ensures { Put out.old at
         (tlas_lines_of packages.now offsets.now ranges.now 0 (packages_in packages.now))
@@ -111,7 +114,8 @@ pub fn put_plan(
     requires entries_bound { (entries_in entries.now ≤ (layout 5).most) × (packages_in packages.now ≤ (layout 7).most) }
     requires entries_in_bounds { entries_in entries.now ≤ length blas_offsets.now }
     requires packages_in_bounds { packages_in packages.now ≤ length tlas_offsets.now }
-    requires packages_in_bounds_2 { (packages_in packages.now * 2 ≤ length staging_ranges.now) × (at + longest_plan ≤ length out.old) }
+    requires packages_in_bounds_2 { (packages_in packages.now * 2 ≤ length staging_ranges.now)
+        × (at + longest_plan ≤ length out.old) }
     ensures { Put out.old at
         (cond recorded (plan_lines size entries.now packages.now
         blas_offsets.now tlas_offsets.now staging_ranges.now) [])

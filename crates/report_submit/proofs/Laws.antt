@@ -9,7 +9,7 @@ use mathlib.Core.List.{List, [], ◌∷◌, ◌++◌}
 use lib.Dec.{eqb}
 use lib.ListN.{length, get_or, set, take, replicate, length-append}
 use lib.Seq.{sets}
-use borrow.Author.Tests.{eq-eqb, ne_eqb, not-true, not-false}
+use borrow.Author.Tests.{eq-eqb, ne_eqb}
 use Rattle.ray_tracing.specs.Layout.{layout, size}
 use Rattle.ray_tracing.specs.Records.{field_at}
 use Rattle.ray_tracing.specs.Plan.{Tables, records_in}
@@ -68,20 +68,20 @@ module _ (x : Tables) (recorded : Bool) (a : List ℕ) (i n : ℕ) where
 
 -- action i, by its kind k and whether it is kept, b
 module _ (x : Tables) (recorded : Bool) (a : List ℕ) (i at : ℕ) {s : List ℕ} {k : ℕ} {b : Bool} (e : k ≡ kind_of a i) (f : b ≡ kept recorded k) where
-  pub put_none : not b ≡ true → Put s at (kept_cells x recorded a i) at s
-  put_none h = rw (← e, ← f, not-true b h) (put_nothing s at)
+  pub put_none : b ≡ false → Put s at (kept_cells x recorded a i) at s
+  put_none h = rw (← e, ← f, h) (put_nothing s at)
 
-  pub put_recorded : {t : List ℕ} → not b ≡ false → k ≡ 1 → t ≡ sets s at (1 ∷ 0 ∷ records_in x 5 ∷ records_in x 7 ∷ []) → Put s at (kept_cells x recorded a i) (at + 4) t
-  put_recorded h l g = rw (← e, ← f, not-false b h, eq-eqb k 1 l) (record { ends = refl; bytes = g })
+  pub put_recorded : {t : List ℕ} → b ≡ true → k ≡ 1 → t ≡ sets s at (1 ∷ 0 ∷ records_in x 5 ∷ records_in x 7 ∷ []) → Put s at (kept_cells x recorded a i) (at + 4) t
+  put_recorded h l g = rw (← e, ← f, h, eq-eqb k 1 l) (record { ends = refl; bytes = g })
 
   pub put_other :
       {t : List ℕ} {o : ℕ}
-      → not b ≡ false
+      → b ≡ true
       → (k ≡ 1 → ⊥)
       → o ≡ field_at 9 a (i * size 9) 1
       → t ≡ sets s at (k ∷ o ∷ 0 ∷ 0 ∷ [])
       → Put s at (kept_cells x recorded a i) (at + 4) t
-  put_other h l m g = rw (← e, ← f, not-false b h, ne_eqb k 1 l, ← m) (record { ends = refl; bytes = g })
+  put_other h l m g = rw (← e, ← f, h, ne_eqb k 1 l, ← m) (record { ends = refl; bytes = g })
 
 -- ---- positions
 
@@ -95,18 +95,18 @@ module _ (recorded : Bool) (a : List ℕ) (i n left whole : ℕ) (inv : get_or (
   position_none h = rw (left-none i n h) at inv
 
   module _ (h : i < n) {k : ℕ} {b : Bool} (e : k ≡ kind_of a i) (f : b ≡ kept recorded k) where
-    pub position-passed : not b ≡ true → get_or (positions recorded a (i + 1) (n - (i + 1))) left 0 ≡ whole
+    pub position-passed : b ≡ false → get_or (positions recorded a (i + 1) (n - (i + 1))) left 0 ≡ whole
     unfolding positions
-    position-passed g = rw (left_more i n h, ← e, ← f, not-true b g) at inv
+    position-passed g = rw (left_more i n h, ← e, ← f, g) at inv
 
-    kept-is : not b ≡ false → get_or (i ∷ positions recorded a (i + 1) (n - (i + 1))) left 0 ≡ whole
+    kept-is : b ≡ true → get_or (i ∷ positions recorded a (i + 1) (n - (i + 1))) left 0 ≡ whole
     unfolding positions
-    kept-is g = rw (left_more i n h, ← e, ← f, not-false b g) at inv
+    kept-is g = rw (left_more i n h, ← e, ← f, g) at inv
 
-    pub position_here : not b ≡ false → left ≡ 0 → i ≡ whole
+    pub position_here : b ≡ true → left ≡ 0 → i ≡ whole
     position_here g z = rw z at (kept-is g)
 
-    pub position_later : not b ≡ false → (left ≡ 0 → ⊥) → get_or (positions recorded a (i + 1) (n - (i + 1))) (left - 1) 0 ≡ whole
+    pub position_later : b ≡ true → (left ≡ 0 → ⊥) → get_or (positions recorded a (i + 1) (n - (i + 1))) (left - 1) 0 ≡ whole
     position_later g z = sym (position_rest (positions recorded a (i + 1) (n - (i + 1))) i left z) ∙ kept-is g
 
 -- ---- what is lent

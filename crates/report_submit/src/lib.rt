@@ -1,8 +1,10 @@
 // The lines `submit` and `next`: a sheet's actions, submitted.
+#![tactic(auto)]
+
 ghost use Rattle.std.specs.Prelude.{◌≡◌, [], ◌∷◌, ◌++◌, ◌+◌, ◌*◌, ◌≤◌, ◌<◌, length, get_or};
 ghost use Rattle.std.proofs.lemmas.List.Edits.{sets};
 ghost use Rattle.ray_tracing.specs.Layout.{layout};
-ghost use Rattle.ray_tracing.specs.Report.{line, word-submit, word_next, kept, outcome_lines};
+ghost use Rattle.ray_tracing.specs.Report.{line, word_submit, word_next, kept, outcome_lines};
 ghost use Rattle.ray_tracing.specs.Sizes.{longest_line};
 ghost use Rattle.ray_tracing.specs.Explain.{outcome_refusal};
 ghost use Rattle.ray_tracing.specs.Submission.{counter_of, outcome_of};
@@ -19,7 +21,7 @@ use submit::submit;
 use wire::{u8_at, u16_at};
 
 // Where the text ends, and what it refuses.
-#[derive(Drop)]
+#[derive(Clone, Copy)]
 pub struct Printed {
     pub end: usize,
     pub refusal: Refusal,
@@ -162,9 +164,9 @@ fn counter_in(submitted: Submitted) -> u64
 }
 
 fn put_outcome(out: &mut [u8], at: usize, v: Refusal, counter: u64) -> usize
-    requires { at + longest_line word-submit 4 + longest_line word_next 1 ≤ length out.old }
+    requires { at + longest_line word_submit 4 + longest_line word_next 1 ≤ length out.old }
     ensures { Put out.old at
-        (line word-submit (v.number ∷ v.e ∷ v.x ∷ v.y ∷ []) ++ line word_next (counter ∷ []))
+        (line word_submit (v.number ∷ v.e ∷ v.x ∷ v.y ∷ []) ++ line word_next (counter ∷ []))
         result out.new }
 {
     let numbers = [v.number, v.e, v.x, v.y];
@@ -180,7 +182,7 @@ fn put_submitted(
     out: &mut [u8],
     at: usize,
 ) -> Printed
-    requires { at + longest_line word-submit 4 + longest_line word_next 1 ≤ length out.old }
+    requires { at + longest_line word_submit 4 + longest_line word_next 1 ≤ length out.old }
     ensures put { Put out.old at
         (outcome_lines (places recorded actions.now) (outcome_of submitted [] [] [] []))
         result.end out.new }
@@ -206,7 +208,7 @@ pub fn put_submission(
     at: usize,
 ) -> Printed
     requires lendable { Lendable blases.now tlases.now entries.now packages.now actions.now }
-    requires word_next_in_bounds { at + longest_line word-submit 4 + longest_line word_next 1 ≤ length out.old }
+    requires word_next_in_bounds { at + longest_line word_submit 4 + longest_line word_next 1 ≤ length out.old }
     ensures put { Put out.old at
         (outcome_lines (places recorded actions.now)
         (submission_outcome counter

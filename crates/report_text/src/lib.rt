@@ -1,4 +1,6 @@
 // Words, decimal numbers and lines in lent bytes.
+#![tactic(auto)]
+
 ghost use Rattle.std.specs.Prelude.{◌≡◌, ◌+◌, ◌*◌, ◌≤◌, [], ◌∷◌, length};
 ghost use Rattle.ray_tracing.specs.Report.{decimal, spaced, line, reported_of, Puts};
 ghost use Rattle.ray_tracing.specs.Sizes.{longest_line};

@@ -9,34 +9,7 @@ use lib.Dec.{T, leb, eqb, leb→le, lit≤}
 use lib.ListN.{length, get_or, length-append}
 use Rattle.ray_tracing.specs.Causes.{Cause, cause}
 use Rattle.ray_tracing.specs.Report.{ascii}
-use Rattle.ray_tracing.specs.Explain.{
-  Refusal,
-  nothing,
-  of_sheet,
-  of_build,
-  of_action,
-  Item,
-  ◌is◌,
-  causes,
-  cause_words,
-  sort_word,
-  reached_word,
-  kind_words,
-  place_items,
-  figure_items,
-  action_items,
-  many_items,
-  record_items,
-  item_bytes,
-  convert_line,
-  refused_line,
-  explanation,
-  between,
-  refuses_with,
-  call_line,
-  no_such_cause,
-  words_of,
-}
+use Rattle.ray_tracing.specs.Explain.{Refusal, nothing, of_sheet, of_build, of_action, Item, ◌is◌, causes, cause_words, sort_word, reached_word, kind_words, place_items, figure_items, action_items, many_items, record_items, item_bytes, convert_line, refused_line, explanation, between, refuses_with, words_of}
 use Rattle.report_text.proofs.Laws.{digits-most}
 use Rattle.report_words.specs.Longest.{longest_item, longest_explanation}
 

@@ -9,52 +9,9 @@ use lib.Dec.{eqb, ltb, leb}
 use borrow.Author.Tests.{ltb-true, ltb-false, le-leb, leb-true, eqb-true, ne_eqb}
 use Rattle.ray_tracing.specs.Causes.{Cause, cause}
 use Rattle.ray_tracing.specs.Report.{ascii, decimal, digits}
-use Rattle.ray_tracing.specs.Explain.{
-  nothing,
-  of_sheet,
-  of_build,
-  of_action,
-  Item,
-  ◌is◌,
-  cause_words,
-  kind_words,
-  place_items,
-  figure_items,
-  action_items,
-  many_items,
-  record_items,
-  item_bytes,
-  line_with,
-  refused_line,
-  explanation,
-  between,
-  refuses_with,
-  write_line,
-  convert_line,
-  call_line,
-  no_such_cause,
-  words_of,
-}
+use Rattle.ray_tracing.specs.Explain.{nothing, of_sheet, of_build, of_action, Item, ◌is◌, cause_words, kind_words, place_items, figure_items, action_items, many_items, record_items, item_bytes, line_with, refused_line, explanation, between, write_line, convert_line, no_such_cause, words_of}
 use Rattle.report_words.specs.declared.Refusal.{Refusal}
-use Rattle.report_words.specs.Lines.{
-  number_for,
-  letter,
-  filled,
-  past_lines,
-  lines,
-  destroyed_place,
-  build_place,
-  unbuilt_place,
-  action_place,
-  append_place,
-  write_place,
-  open_place,
-  many_place,
-  to_two_place,
-  to_one_place,
-  record_place,
-  line_place,
-}
+use Rattle.report_words.specs.Lines.{number_for, letter, filled, past_lines, lines, build_place, action_place, append_place, write_place, open_place, many_place, to_two_place, to_one_place, record_place, line_place}
 
 -- ---- a line as one text goes after the other
 

@@ -1,6 +1,6 @@
 -- Each cause of the code is one that its call can give.
 use Prim.Native.Nat.{ℕ}
-use mathlib.Core.Path.{◌≡◌, refl}
+use mathlib.Core.Path.{refl}
 use Rattle.ray_tracing.specs.declared.SheetError.{SheetError}
 use Rattle.ray_tracing.specs.declared.SheetError.TheVariants as sheet
 use Rattle.ray_tracing.specs.declared.Resource.TheVariants as resource
@@ -11,7 +11,6 @@ use Rattle.ray_tracing.specs.declared.ValidateAsActionsError.TheVariants as subm
 use Rattle.ray_tracing.specs.Causes.{sheet_number, build_cause, submission_cause}
 use Rattle.causes.specs.Figures.{plainly}
 use Rattle.ray_tracing.specs.Explain.{nothing, of_sheet, of_build, of_action, explanation, words_of}
-use Rattle.report_words.specs.declared.Refusal.{Refusal}
 use Rattle.report_words.specs.Refused.{refused_by, told_of, Refuses}
 
 pub tells_nothing : Refuses (told_of nothing) nothing

@@ -1,8 +1,10 @@
 // The words of a call's refusal, by the numbers that the call answers: a line of one text, with its letters filled.
+#![tactic(auto)]
+
 ghost use Rattle.std.specs.Prelude.{◌≡◌, cond, ◌+◌, ◌≤◌, length, drop};
 ghost use Rattle.ray_tracing.specs.Causes.{sheet_number, build_cause, submission_cause};
 ghost use Rattle.ray_tracing.specs.Report.{ascii, reported_of, Puts};
-ghost use Rattle.ray_tracing.specs.Explain.{kind_words, between, nothing, of-sheet, of-build, of-action};
+ghost use Rattle.ray_tracing.specs.Explain.{kind_words, between, nothing, of_sheet, of_build, of_action};
 ghost use Rattle.causes.specs.Figures.{cause_of};
 ghost use Rattle.report_text.specs.Put.{Put};
 ghost use Rattle.report_words.specs.Refused.{refused_by, words_in, Refuses};
@@ -21,7 +23,7 @@ use report_text::{put, put_byte, put_decimal, put_text};
 // The call that refuses, by its number (1 reads a sheet, 2 builds, 3 submits, 4 appends an instance, 5 writes a sheet, 6 opens groups, 7 appends many
 // instances, 8 converts a sheet to version 2, 9 to version 1, 10 reads instances back), the refusal's number, place and figures; an action is in E
 // and its kind in F, a group in E and its item in F, an instance's position in F, a record in E. Number 0 refuses nothing.
-#[derive(Drop)]
+#[derive(Clone, Copy)]
 pub struct Refusal {
     pub call: u64,
     pub number: u64,
@@ -47,7 +49,7 @@ pub fn no_refusal() -> Refusal
 }
 
 pub fn sheet_refusal(e: SheetError, place: usize) -> Refusal
-    ensures { Refuses result (of-sheet (sheet_number e) place) }
+    ensures { Refuses result (of_sheet (sheet_number e) place) }
 {
     Refusal {
         call: 1,
@@ -75,13 +77,13 @@ fn refused_by(call: u64, e: usize, f: usize, cause: Figures) -> Refusal
 }
 
 pub fn build_refusal(error: BuildAccelerationStructureError, e: usize, g: usize) -> Refusal
-    ensures { Refuses result (of-build e g (build_cause error)) }
+    ensures { Refuses result (of_build e g (build_cause error)) }
 {
     refused_by(2, e, g, build_figures(error))
 }
 
 pub fn action_refusal(error: ValidateAsActionsError, i: usize, kind: u8) -> Refusal
-    ensures { Refuses result (of-action i kind (submission_cause error)) }
+    ensures { Refuses result (of_action i kind (submission_cause error)) }
 {
     refused_by(3, i, kind as usize, submission_figures(error))
 }

@@ -1,0 +1,26 @@
+-- `report::put_report` meets its contract, by what the sheet is read as.
+use mathlib.Core.Path.{sym, ap, ◌∙◌}
+use Rattle.ray_tracing.specs.Causes.{reading_of}
+use Rattle.ray_tracing.specs.Report.{report}
+use Rattle.ray_tracing.specs.Explain.{refusal_in}
+use borrow.Author.Rules.{rules}
+use Rattle.report.proofs.put_report.Goals as goal
+
+pub put_accepted-requires : goal.put_accepted-requires
+put_accepted-requires c = (sym c.read_sheet.ensures ∙ ap reading_of c.in-Accepted.is, search rules)
+
+pub returns-in-Accepted : goal.returns-in-Accepted
+unfolding report refusal_in
+returns-in-Accepted c =
+    record {
+      put = rw (← c.read_sheet.ensures, c.in-Accepted.is) c.put_accepted.ensures.put;
+      refuses = rw (← c.read_sheet.ensures, c.in-Accepted.is) c.put_accepted.ensures.refuses;
+    }
+
+pub returns-in-Refused : goal.returns-in-Refused
+unfolding report refusal_in
+returns-in-Refused c =
+    record {
+      put = rw (← c.read_sheet.ensures, c.in-Refused.is) c.put_refused.ensures.put;
+      refuses = rw (← c.read_sheet.ensures, c.in-Refused.is) c.put_refused.ensures.refuses;
+    }

@@ -1,0 +1,5 @@
+-- `report_plan::put_tlas_line` meets its contract.
+use Rattle.report_plan.proofs.put_tlas_line.Goals as goal
+
+pub returns : goal.returns
+returns c = rw c.u16_at.ensures at c.put_line.ensures
