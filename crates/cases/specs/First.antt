@@ -1,5 +1,5 @@
 -- The first n of a list, or none of it. Assumes nothing.
-use Rattle.std.specs.Prelude.{ℕ, Bool, cond, List, length, take, ltb}
+use Rattle.std.specs.Prelude.{ℕ, cond, List, length, take, ltb}
 
 abbrev pub at_most : ℕ → ℕ → ℕ
 at_most n most = cond (ltb most n) 0 n

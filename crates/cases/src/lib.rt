@@ -1,40 +1,49 @@
 // What the programs that run cases share: the next bytes and cells of standard input, hashes, and lines of numbers.
+#![tactic(auto)]
+
 ghost use Rattle.std.specs.Prelude.{◌≡◌, ◌*◌, ◌≤◌, ◌<◌, length};
-ghost use Rattle.io.specs.Counts.{IsPrefixLen};
 ghost use Rattle.cases.specs.First.{at_most, first_few};
 ghost use Rattle.cases.specs.Hash.{hash, hash_step};
 
-use libc::{STDIN_FILENO, STDOUT_FILENO};
+use std::io;
+use std::io::Read;
 
-// The next n bytes of the input, put first, and how many there were: fewer at the input's end, none where there is no room for n.
-pub fn fill(bytes: &mut [u8], n: usize) -> usize
-    ensures { IsPrefixLen result bytes.new × (result ≤ n) }
+// The next n bytes of the input, put first, and how many there were: fewer at the input's end, none where there is no room for n. A read that
+// fails ends the input.
+pub fn fill(rt: &impl Input, bytes: &mut [u8], n: usize) -> usize
+    ensures { (result ≤ length bytes.new) × (result ≤ n) }
 {
     if bytes.len() < n {
         return 0;
     }
-    io::read_full(STDIN_FILENO, &mut bytes[0..n])
+    let mut input = rt.reader();
+    let mut done = 0;
+    while done < n {
+        match input.read(&mut bytes[done..n]) {
+            Ok(0) | Err(_) => break,
+            Ok(more) => done += more,
+        }
+    }
+    done
 }
 
 // What `next_u32` answers at the input's end: no u32.
 pub const END: usize = 4294967296;
 
-pub fn next_u32() -> usize
+pub fn next_u32(rt: &impl Input) -> usize
     ensures { result ≤ 4294967296 }
 {
     let mut bytes = [0u8; 4];
-    if fill(&mut bytes, 4) < 4 {
+    if fill(rt, &mut bytes, 4) < 4 {
         return END;
     }
     wire::u32_at(&bytes, 0) as usize
 }
 
 // 0 at the input's end.
-pub fn next_u64() -> u64
-    ensures { Unit {0} }
-{
+pub fn next_u64(rt: &impl Input) -> u64 {
     let mut bytes = [0u8; 8];
-    fill(&mut bytes, 8);
+    fill(rt, &mut bytes, 8);
     wire::u64_at(&bytes, 0)
 }
 
@@ -59,27 +68,27 @@ fn take_u32(cells: &mut [u32], bytes: &[u8], n: usize)
 }
 
 // The next n cells, as `fill`; at most 32,768.
-pub fn fill_u16(cells: &mut [u16], n: usize) -> usize
-    ensures { IsPrefixLen result cells.new × (result ≤ n) }
+pub fn fill_u16(rt: &impl Input, cells: &mut [u16], n: usize) -> usize
+    ensures { (result ≤ length cells.new) × (result ≤ n) }
 {
     if cells.len() < n || 32768 < n {
         return 0;
     }
-    let mut bytes = io::large_buffer();
-    let got = fill(&mut bytes, 2 * n) / 2;
+    let mut bytes = [0u8; 65536];
+    let got = fill(rt, &mut bytes, 2 * n) / 2;
     take_u16(cells, &bytes, got);
     got
 }
 
 // The next n cells, as `fill`; at most 16,384.
-pub fn fill_u32(cells: &mut [u32], n: usize) -> usize
-    ensures { IsPrefixLen result cells.new × (result ≤ n) }
+pub fn fill_u32(rt: &impl Input, cells: &mut [u32], n: usize) -> usize
+    ensures { (result ≤ length cells.new) × (result ≤ n) }
 {
     if cells.len() < n || 16384 < n {
         return 0;
     }
-    let mut bytes = io::large_buffer();
-    let got = fill(&mut bytes, 4 * n) / 4;
+    let mut bytes = [0u8; 65536];
+    let got = fill(rt, &mut bytes, 4 * n) / 4;
     take_u32(cells, &bytes, got);
     got
 }
@@ -168,35 +177,32 @@ pub fn hash_u64(s: &[u64]) -> u64
 }
 
 // Each number and a space. What is written no contract can say.
-pub fn print_words(numbers: &[u64])
-    ensures* { ⊤ₛ }
-{
+pub fn print_words(rt: &impl Print, numbers: &[u64]) -> io::Result<()> {
     let mut i = 0;
     while i < numbers.len() {
-        io::print_decimal(STDOUT_FILENO, numbers[i]);
-        io::write_all(STDOUT_FILENO, b" ");
+        let number = numbers[i];
+        print!(rt; "{number} ")?;
         i += 1;
     }
+    Ok(())
 }
 
 // The last number and a line end, each other as in `print_words`.
-pub fn print_line(numbers: &[u64])
-    ensures { Unit {0} }
-{
+pub fn print_line(rt: &impl Print, numbers: &[u64]) -> io::Result<()> {
     let n = numbers.len();
     if 0 < n {
         let last = n - 1;
-        print_words(&numbers[0..last]);
-        io::print_decimal(STDOUT_FILENO, numbers[last]);
+        print_words(rt, &numbers[0..last])?;
+        let number = numbers[last];
+        print!(rt; "{number}")?;
     }
-    io::write_all(STDOUT_FILENO, b"\n");
+    println!(rt;)
 }
 
 // The first n bytes of a text, where there are so many; else nothing.
-pub fn print_first(text: &[u8], n: usize)
-    ensures { Unit {0} }
-{
+pub fn print_first(rt: &impl Print, text: &[u8], n: usize) -> io::Result<()> {
     if n <= text.len() {
-        io::write_all(STDOUT_FILENO, &text[0..n]);
+        rt.write_all(&text[0..n])?;
     }
+    Ok(())
 }

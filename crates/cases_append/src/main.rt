@@ -2,6 +2,8 @@
 // of all the room, filled with a pattern before; then of one call after another, up to the first that is refused, the last one's number, bytes in
 // use, how many calls there were, and a hash of a room of its own, filled alike. tests/make_append_cases.py says how a case is written, and
 // makes cases and answers.
+#![tactic(auto)]
+
 ghost use Rattle.std.specs.Prelude.{◌+◌, ◌≤◌, length};
 
 use capi_answers::{append_answer, append_many_answer};
@@ -9,19 +11,21 @@ use instance::append_instance;
 use instance_bytes::instance_from;
 use instance_many::append_instances;
 use ray_tracing::{AppendAnswer, LENT_SIZE, TlasId};
+use std::io;
 
 fn append_all(
+    rt: &impl Print,
     tlases: &[u8],
     blases: &[u8],
     tlas: TlasId,
     items: &[u8],
     instances: &mut [u8],
     used: usize,
-) {
+) -> io::Result<()> {
     let appended = append_instances(tlases, blases, tlas, items, instances, used);
     let a = append_many_answer(used, appended);
     let words = [a.number, a.e0, a.e1, a.used, cases::hash_u8(instances)];
-    cases::print_words(&words);
+    cases::print_words(rt, &words)
 }
 
 // A call for the item at a place.
@@ -42,13 +46,14 @@ fn append_next(
 }
 
 fn append_each(
+    rt: &impl Print,
     tlases: &[u8],
     blases: &[u8],
     tlas: TlasId,
     items: &[u8],
     instances: &mut [u8],
     used: usize,
-) {
+) -> io::Result<()> {
     let mut in_use = used;
     let mut number: u64 = 0;
     let mut at: usize = 0;
@@ -65,60 +70,79 @@ fn append_each(
         calls as u64,
         cases::hash_u8(instances),
     ];
-    cases::print_line(&line);
+    cases::print_line(rt, &line)
 }
 
 // Both, each over a room of its own.
-fn answer(tlases: &[u8], blases: &[u8], tlas: TlasId, items: &[u8], room: usize, used: usize) {
+fn answer(
+    rt: &impl Print,
+    tlases: &[u8],
+    blases: &[u8],
+    tlas: TlasId,
+    items: &[u8],
+    room: usize,
+    used: usize,
+) -> io::Result<()> {
     let mut first = [165u8; 65536];
     let mut second = [165u8; 65536];
     append_all(
+        rt,
         tlases,
         blases,
         tlas,
         items,
         cases::first_u8(&mut first, room),
         used,
-    );
+    )?;
     append_each(
+        rt,
         tlases,
         blases,
         tlas,
         items,
         cases::first_u8(&mut second, room),
         used,
-    );
+    )
 }
 
 // One case; false at the end of the input.
-fn next_case() -> bool {
-    let id = cases::next_u32();
+fn next_case(rt: &(impl Input + Print)) -> io::Result<bool> {
+    let id = cases::next_u32(rt);
     if id == cases::END {
-        return false;
+        return Ok(false);
     }
     let tlas = TlasId((id % 65536) as u16);
-    let used = cases::next_u64() as usize;
-    let room = cases::next_u32();
+    let used = cases::next_u64(rt) as usize;
+    let room = cases::next_u32(rt);
     let mut tlases = [0u8; 8192];
     let mut blases = [0u8; 16384];
-    let mut items = io::large_buffer();
-    let length = cases::next_u32();
-    let t = cases::fill(&mut tlases, length);
-    let length = cases::next_u32();
-    let b = cases::fill(&mut blases, length);
-    let length = cases::next_u32();
-    let n = cases::fill(&mut items, length);
-    answer(&tlases[..t], &blases[..b], tlas, &items[..n], room, used);
-    true
+    let mut items = [0u8; 65536];
+    let length = cases::next_u32(rt);
+    let t = cases::fill(rt, &mut tlases, length);
+    let length = cases::next_u32(rt);
+    let b = cases::fill(rt, &mut blases, length);
+    let length = cases::next_u32(rt);
+    let n = cases::fill(rt, &mut items, length);
+    answer(
+        rt,
+        &tlases[..t],
+        &blases[..b],
+        tlas,
+        &items[..n],
+        room,
+        used,
+    )?;
+    Ok(true)
 }
 
 // At most so many cases, so that the program ends whatever it is fed.
-fn main() {
+fn main(rt: HostRuntime) -> io::Result<()> {
     let mut left: usize = 100000;
     while 0 < left {
-        if !next_case() {
-            return;
+        if !next_case(&rt)? {
+            return Ok(());
         }
         left -= 1;
     }
+    Ok(())
 }

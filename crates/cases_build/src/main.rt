@@ -1,7 +1,10 @@
 // Reads builds over lent tables from standard input and writes a line for each: number, E, three figures, recorded, scratch size, how
 // many elements of each output are written, and a hash of each output's whole array, filled with a pattern before.
 // tests/make_build_cases.py says how a case is written, and makes cases and answers.
+#![tactic(auto)]
+
 use ray_tracing::{Built, Version};
+use std::io;
 
 fn wide(n: u32) -> usize {
     n as usize
@@ -38,7 +41,7 @@ fn table<'a>(head: &[u32; 17], bytes: &'a [u8], k: usize) -> &'a [u8] {
     part(bytes, start_of(head, k), number(head, k))
 }
 
-fn print_built(built: Built) {
+fn print_built(rt: &impl Print, built: Built) -> io::Result<()> {
     let a = capi_answers::build_answer(built);
     let words = [
         a.number,
@@ -57,11 +60,12 @@ fn print_built(built: Built) {
         a.compactable,
         a.lists,
     ];
-    cases::print_words(&words);
+    cases::print_words(rt, &words)
 }
 
 // A build of the case's tables into as much of each output as the case lends.
 fn run(
+    rt: &impl Print,
     version: Version,
     head: &[u32; 17],
     bytes: &[u8],
@@ -72,7 +76,7 @@ fn run(
     init_ranges: &mut [u64],
     compactable: &mut [u16],
     lists: &mut [u16],
-) {
+) -> io::Result<()> {
     let built = build::build_acceleration_structures(
         version,
         head[0],
@@ -92,11 +96,11 @@ fn run(
         cases::first_u16(compactable, number(head, 14)),
         cases::first_u16(lists, number(head, 15)),
     );
-    print_built(built);
+    print_built(rt, built)
 }
 
 // One build over arrays filled with a pattern.
-fn answer(version: Version, head: &[u32; 17], bytes: &[u8]) {
+fn answer(rt: &impl Print, version: Version, head: &[u32; 17], bytes: &[u8]) -> io::Result<()> {
     let mut blas_offsets = [0xa5a5_a5a5_a5a5_a5a5u64; 72];
     let mut tlas_offsets = [0xa5a5_a5a5_a5a5_a5a5u64; 40];
     let mut staging_ranges = [0xa5a5_a5a5_a5a5_a5a5u64; 80];
@@ -105,6 +109,7 @@ fn answer(version: Version, head: &[u32; 17], bytes: &[u8]) {
     let mut compactable = [0xa5a5u16; 72];
     let mut lists = [0xa5a5u16; 700];
     run(
+        rt,
         version,
         head,
         bytes,
@@ -115,7 +120,7 @@ fn answer(version: Version, head: &[u32; 17], bytes: &[u8]) {
         &mut init_ranges,
         &mut compactable,
         &mut lists,
-    );
+    )?;
     let hashes = [
         cases::hash_u64(&blas_offsets),
         cases::hash_u64(&tlas_offsets),
@@ -125,32 +130,33 @@ fn answer(version: Version, head: &[u32; 17], bytes: &[u8]) {
         cases::hash_u16(&compactable),
         cases::hash_u16(&lists),
     ];
-    cases::print_line(&hashes);
+    cases::print_line(rt, &hashes)
 }
 
 // One case; false at the end of the input, and for a version that there is not.
-fn next_case() -> bool {
+fn next_case(rt: &(impl Input + Print)) -> io::Result<bool> {
     let mut head = [0u32; 17];
-    if cases::fill_u32(&mut head, 17) < 17 {
-        return false;
+    if cases::fill_u32(rt, &mut head, 17) < 17 {
+        return Ok(false);
     }
-    let mut bytes = io::large_buffer();
-    cases::fill(&mut bytes, start_of(&head, 9));
+    let mut bytes = [0u8; 65536];
+    cases::fill(rt, &mut bytes, start_of(&head, 9));
     match number(&head, 16) {
-        1 => answer(Version::One, &head, &bytes),
-        2 => answer(Version::Two, &head, &bytes),
-        _ => return false,
+        1 => answer(rt, Version::One, &head, &bytes)?,
+        2 => answer(rt, Version::Two, &head, &bytes)?,
+        _ => return Ok(false),
     }
-    true
+    Ok(true)
 }
 
 // At most so many builds, so that the program ends whatever it is fed.
-fn main() {
+fn main(rt: HostRuntime) -> io::Result<()> {
     let mut left: usize = 100000;
     while 0 < left {
-        if !next_case() {
-            return;
+        if !next_case(&rt)? {
+            return Ok(());
         }
         left -= 1;
     }
+    Ok(())
 }

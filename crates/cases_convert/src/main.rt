@@ -1,8 +1,10 @@
 // Reads sheets from standard input, each after its length and the room that it is converted into, as u32s, and writes for each a line of each
 // way, to version 2 and to version 1: number, place, bytes written, and a hash of all the room, filled with a pattern before. What is written
 // is converted back: its line, and whether it has the sheet's own bytes. tests/make_convert_cases.py makes sheets and answers.
-use libc::STDOUT_FILENO;
+#![tactic(auto)]
+
 use ray_tracing::{Version, WriteAnswer};
+use std::io;
 
 fn convert(to: Version, sheet: &[u8], out: &mut [u8]) -> WriteAnswer {
     match to {
@@ -12,18 +14,23 @@ fn convert(to: Version, sheet: &[u8], out: &mut [u8]) -> WriteAnswer {
 }
 
 // Converts a sheet into the room, prints its line, and says how many bytes are written: 0 for a refused one.
-fn print_converted(to: Version, sheet: &[u8], out: &mut [u8]) -> usize {
+fn print_converted(
+    rt: &impl Print,
+    to: Version,
+    sheet: &[u8],
+    out: &mut [u8],
+) -> io::Result<usize> {
     let a = convert(to, sheet, out);
     let line = [a.number, a.place, a.written, cases::hash_u8(out)];
-    cases::print_line(&line);
-    a.written as usize
+    cases::print_line(rt, &line)?;
+    Ok(a.written as usize)
 }
 
-fn print_same(a: &[u8], b: &[u8]) {
-    if check::same(a, b) {
-        io::write_all(STDOUT_FILENO, b"same\n");
+fn print_same(rt: &impl Print, a: &[u8], b: &[u8]) -> io::Result<()> {
+    if a == b {
+        println!(rt; "same")
     } else {
-        io::write_all(STDOUT_FILENO, b"different\n");
+        println!(rt; "different")
     }
 }
 
@@ -35,41 +42,49 @@ fn first(bytes: &[u8], n: usize) -> &[u8] {
     &bytes[0..n]
 }
 
-fn print_back(to: Version, there: &[u8], sheet: &[u8]) {
+fn print_back(rt: &impl Print, to: Version, there: &[u8], sheet: &[u8]) -> io::Result<()> {
     let mut back = [165u8; 65536];
-    let n = print_converted(to, there, &mut back);
-    print_same(first(&back, n), sheet);
+    let n = print_converted(rt, to, there, &mut back)?;
+    print_same(rt, first(&back, n), sheet)
 }
 
-fn print_there_and_back(to: Version, from: Version, sheet: &[u8], room: usize) {
+fn print_there_and_back(
+    rt: &impl Print,
+    to: Version,
+    from: Version,
+    sheet: &[u8],
+    room: usize,
+) -> io::Result<()> {
     let mut there = [165u8; 65536];
-    let n = print_converted(to, sheet, cases::first_u8(&mut there, room));
+    let n = print_converted(rt, to, sheet, cases::first_u8(&mut there, room))?;
     if 0 < n {
-        print_back(from, first(&there, n), sheet);
+        print_back(rt, from, first(&there, n), sheet)?;
     }
+    Ok(())
 }
 
 // One sheet; false at the end of the input.
-fn next_case() -> bool {
-    let length = cases::next_u32();
-    let room = cases::next_u32();
+fn next_case(rt: &(impl Input + Print)) -> io::Result<bool> {
+    let length = cases::next_u32(rt);
+    let room = cases::next_u32(rt);
     if room == cases::END {
-        return false;
+        return Ok(false);
     }
-    let mut sheet = io::large_buffer();
-    let n = cases::fill(&mut sheet, length);
-    print_there_and_back(Version::Two, Version::One, &sheet[..n], room);
-    print_there_and_back(Version::One, Version::Two, &sheet[..n], room);
-    true
+    let mut sheet = [0u8; 65536];
+    let n = cases::fill(rt, &mut sheet, length);
+    print_there_and_back(rt, Version::Two, Version::One, &sheet[..n], room)?;
+    print_there_and_back(rt, Version::One, Version::Two, &sheet[..n], room)?;
+    Ok(true)
 }
 
 // At most so many sheets, so that the program ends whatever it is fed.
-fn main() {
+fn main(rt: HostRuntime) -> io::Result<()> {
     let mut left: usize = 100000;
     while 0 < left {
-        if !next_case() {
-            return;
+        if !next_case(&rt)? {
+            return Ok(());
         }
         left -= 1;
     }
+    Ok(())
 }

@@ -1,8 +1,11 @@
 // Reads groups of slots from standard input, each after its length and the room that they are opened into, as u32s, and writes a line for
 // each: number, place, group, item, bytes written, and a hash of all the room, filled with a pattern before. tests/make_groups_cases.py makes
 // groups and answers.
+#![tactic(auto)]
 
-fn open(groups: &[u8], slots: &mut [u8]) {
+use std::io;
+
+fn open(rt: &impl Print, groups: &[u8], slots: &mut [u8]) -> io::Result<()> {
     let a = capi_answers::open_answer(groups::open_groups(groups, slots));
     let line = [
         a.number,
@@ -12,30 +15,31 @@ fn open(groups: &[u8], slots: &mut [u8]) {
         a.written,
         cases::hash_u8(slots),
     ];
-    cases::print_line(&line);
+    cases::print_line(rt, &line)
 }
 
 // One input; false at the end of all.
-fn next_case() -> bool {
-    let length = cases::next_u32();
-    let room = cases::next_u32();
+fn next_case(rt: &(impl Input + Print)) -> io::Result<bool> {
+    let length = cases::next_u32(rt);
+    let room = cases::next_u32(rt);
     if room == cases::END {
-        return false;
+        return Ok(false);
     }
-    let mut groups = io::large_buffer();
-    let n = cases::fill(&mut groups, length);
+    let mut groups = [0u8; 65536];
+    let n = cases::fill(rt, &mut groups, length);
     let mut slots = [165u8; 65536];
-    open(&groups[..n], cases::first_u8(&mut slots, room));
-    true
+    open(rt, &groups[..n], cases::first_u8(&mut slots, room))?;
+    Ok(true)
 }
 
 // At most so many, so that the program ends whatever it is fed.
-fn main() {
+fn main(rt: HostRuntime) -> io::Result<()> {
     let mut left: usize = 100000;
     while 0 < left {
-        if !next_case() {
-            return;
+        if !next_case(&rt)? {
+            return Ok(());
         }
         left -= 1;
     }
+    Ok(())
 }

@@ -1,6 +1,9 @@
 // Reads sheets from standard input, each after its length as a u32, and writes a line for each: the refusal's number and place, or 0,
 // version, alignment, counter, and the start and count of each section. tests/make_read_cases.py makes sheets and answers.
+#![tactic(auto)]
+
 use ray_tracing::{Section, Sheet, SheetError, SheetRead, Version};
+use std::io;
 
 fn number(e: SheetError) -> u64 {
     match e {
@@ -19,12 +22,12 @@ fn version_number(version: Version) -> u64 {
     }
 }
 
-fn print_section(s: Section) {
+fn print_section(rt: &impl Print, s: Section) -> io::Result<()> {
     let words = [s.start as u64, s.count as u64];
-    cases::print_words(&words);
+    cases::print_words(rt, &words)
 }
 
-fn print_sheet(s: Sheet) {
+fn print_sheet(rt: &impl Print, s: Sheet) -> io::Result<()> {
     let version = s.version;
     let head = [0, version_number(version), s.alignment as u64, s.counter];
     let buffers = s.buffers;
@@ -37,47 +40,48 @@ fn print_sheet(s: Sheet) {
     let slots = s.slots;
     let actions = s.actions;
     let last = [actions.start as u64, actions.count as u64];
-    cases::print_words(&head);
-    print_section(buffers);
-    print_section(blases);
-    print_section(declared);
-    print_section(tlases);
-    print_section(entries);
-    print_section(geometries);
-    print_section(packages);
-    print_section(slots);
-    cases::print_line(&last);
+    cases::print_words(rt, &head)?;
+    print_section(rt, buffers)?;
+    print_section(rt, blases)?;
+    print_section(rt, declared)?;
+    print_section(rt, tlases)?;
+    print_section(rt, entries)?;
+    print_section(rt, geometries)?;
+    print_section(rt, packages)?;
+    print_section(rt, slots)?;
+    cases::print_line(rt, &last)
 }
 
-fn answer(sheet: &[u8]) {
+fn answer(rt: &impl Print, sheet: &[u8]) -> io::Result<()> {
     match sheet::read_sheet(sheet) {
-        SheetRead::Accepted(s) => print_sheet(s),
+        SheetRead::Accepted(s) => print_sheet(rt, s),
         SheetRead::Refused(e, place) => {
             let line = [number(e), place as u64];
-            cases::print_line(&line);
+            cases::print_line(rt, &line)
         }
     }
 }
 
 // One sheet; false at the end of the input.
-fn next_case() -> bool {
-    let length = cases::next_u32();
+fn next_case(rt: &(impl Input + Print)) -> io::Result<bool> {
+    let length = cases::next_u32(rt);
     if length == cases::END {
-        return false;
+        return Ok(false);
     }
-    let mut bytes = io::large_buffer();
-    let n = cases::fill(&mut bytes, length);
-    answer(&bytes[..n]);
-    true
+    let mut bytes = [0u8; 65536];
+    let n = cases::fill(rt, &mut bytes, length);
+    answer(rt, &bytes[..n])?;
+    Ok(true)
 }
 
 // At most so many sheets, so that the program ends whatever it is fed.
-fn main() {
+fn main(rt: HostRuntime) -> io::Result<()> {
     let mut left: usize = 100000;
     while 0 < left {
-        if !next_case() {
-            return;
+        if !next_case(&rt)? {
+            return Ok(());
         }
         left -= 1;
     }
+    Ok(())
 }

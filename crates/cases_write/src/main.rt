@@ -1,33 +1,35 @@
 // Reads pairs of sheets from standard input, each sheet after its length and the room that it is written into, as u32s, and writes a line for
 // each sheet: number, place, bytes written, and a hash of all the room, filled with a pattern before; after two that are written whether their
 // bytes are the same. tests/make_write_cases.py makes sheets and answers.
-use libc::STDOUT_FILENO;
+#![tactic(auto)]
+
+use std::io;
 
 // Writes a sheet into the room, prints its line, and says how many bytes are written: 0 for a refused one.
-fn write(sheet: &[u8], out: &mut [u8]) -> usize {
+fn write(rt: &impl Print, sheet: &[u8], out: &mut [u8]) -> io::Result<usize> {
     let a = capi_answers::write_answer(sheet_write::write_sheet(sheet, out));
     let line = [a.number, a.place, a.written, cases::hash_u8(out)];
-    cases::print_line(&line);
-    a.written as usize
+    cases::print_line(rt, &line)?;
+    Ok(a.written as usize)
 }
 
 // The next sheet written into the room that it says; bytes as `write`, or END at the end of the input.
-fn write_next(out: &mut [u8]) -> usize {
-    let length = cases::next_u32();
-    let room = cases::next_u32();
+fn write_next(rt: &(impl Input + Print), out: &mut [u8]) -> io::Result<usize> {
+    let length = cases::next_u32(rt);
+    let room = cases::next_u32(rt);
     if room == cases::END {
-        return cases::END;
+        return Ok(cases::END);
     }
-    let mut sheet = io::large_buffer();
-    let n = cases::fill(&mut sheet, length);
-    write(&sheet[..n], cases::first_u8(out, room))
+    let mut sheet = [0u8; 65536];
+    let n = cases::fill(rt, &mut sheet, length);
+    write(rt, &sheet[..n], cases::first_u8(out, room))
 }
 
-fn print_same(a: &[u8], b: &[u8]) {
-    if check::same(a, b) {
-        io::write_all(STDOUT_FILENO, b"same\n");
+fn print_same(rt: &impl Print, a: &[u8], b: &[u8]) -> io::Result<()> {
+    if a == b {
+        println!(rt; "same")
     } else {
-        io::write_all(STDOUT_FILENO, b"different\n");
+        println!(rt; "different")
     }
 }
 
@@ -40,32 +42,34 @@ fn first(bytes: &[u8], n: usize) -> &[u8] {
 }
 
 // By what is written of each, where both are.
-fn compare(a: &[u8], n: usize, b: &[u8], m: usize) {
+fn compare(rt: &impl Print, a: &[u8], n: usize, b: &[u8], m: usize) -> io::Result<()> {
     if 0 < n && 0 < m {
-        print_same(first(a, n), first(b, m));
+        print_same(rt, first(a, n), first(b, m))?;
     }
+    Ok(())
 }
 
 // One pair; false at the end of the input.
-fn next_case() -> bool {
+fn next_case(rt: &(impl Input + Print)) -> io::Result<bool> {
     let mut a = [165u8; 65536];
     let mut b = [165u8; 65536];
-    let n = write_next(&mut a);
+    let n = write_next(rt, &mut a)?;
     if n == cases::END {
-        return false;
+        return Ok(false);
     }
-    let m = write_next(&mut b);
-    compare(&a, n, &b, m);
-    true
+    let m = write_next(rt, &mut b)?;
+    compare(rt, &a, n, &b, m)?;
+    Ok(true)
 }
 
 // At most so many pairs, so that the program ends whatever it is fed.
-fn main() {
+fn main(rt: HostRuntime) -> io::Result<()> {
     let mut left: usize = 100000;
     while 0 < left {
-        if !next_case() {
-            return;
+        if !next_case(&rt)? {
+            return Ok(());
         }
         left -= 1;
     }
+    Ok(())
 }

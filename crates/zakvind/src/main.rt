@@ -1,6 +1,6 @@
 // zakvind [VERB]: reads a sheet from standard input and prints its lines; with the verb `explain` also what they refuse, in words; with
 // `canonical` in their place its canonical bytes. Of an input that is longer than the buffer the first 65,536 bytes are read: the first 57,440
-// decide what is printed (`report-prefix` of `report`, `explained-prefix` of `explain`) and whether a sheet is read at all (`prefix-decides` of
+// decide what is printed (`report_prefix` of `report`, `explained_prefix` of `explain`) and whether a sheet is read at all (`prefix_decides` of
 // `ray_tracing`). None has more than 57,439, so that no part of a longer input is written as one.
 //
 // With `to-2` and `to-1` the sheet's bytes in that version are printed, with a line to standard error that says how many those are; nothing where
@@ -11,54 +11,77 @@
 // by one function, which so is compiled by itself: what prints sheets sets up no such stack.
 //
 // For other arguments it prints nothing.
-ghost use Rattle.std.specs.Prelude.{◌≡◌, length};
+#![tactic(auto)]
 
-use libc::{STDERR_FILENO, STDIN_FILENO, STDOUT_FILENO};
+ghost use Rattle.std.specs.Prelude.{◌≡◌, ◌≤◌, length};
+
 use ray_tracing::{OpenAnswer, Reported, SheetWritten, Version, WriteAnswer};
 use report_words::Refusal;
+use std::env::FillError;
+use std::io;
+use std::io::Read;
+use std::rt::Env;
 
-fn print(text: &[u8], n: usize) {
-    if n <= text.len() {
-        io::write_all(STDOUT_FILENO, &text[0..n]);
+// The input's bytes, put first, up to its end or until there is no room for more, and how many those are. A read that fails ends the input.
+fn read_full(rt: &impl Input, bytes: &mut [u8]) -> usize
+    ensures { result ≤ length bytes.new }
+{
+    let mut input = rt.reader();
+    let mut done = 0;
+    while done < bytes.len() {
+        match input.read(&mut bytes[done..]) {
+            Ok(0) | Err(_) => break,
+            Ok(more) => done += more,
+        }
     }
+    done
 }
 
-// No sheet's lines are more than 6,134 bytes, so none is refused here (`report-most`, `never-short` of `report`).
-fn print_lines(sheet: &[u8]) {
+fn print(rt: &impl Print, text: &[u8], n: usize) -> io::Result<()> {
+    if n <= text.len() {
+        rt.write_all(&text[0..n])?;
+    }
+    Ok(())
+}
+
+// No sheet's lines are more than 6,134 bytes, so none is refused here (`report-most`, `never_short` of `report`).
+fn print_lines(rt: &impl Print, sheet: &[u8]) -> io::Result<()> {
     let mut text = [0u8; 6134];
     if let Reported::Written(n) = report::report(sheet, &mut text) {
-        print(&text, n);
+        print(rt, &text, n)?;
     }
+    Ok(())
 }
 
-// Nor are they with their words more than 6,381 (`explained-most`, `never-short` of `explain`).
-fn print_explained(sheet: &[u8]) {
+// Nor are they with their words more than 6,381 (`explained-most`, `never_short` of `explain`).
+fn print_explained(rt: &impl Print, sheet: &[u8]) -> io::Result<()> {
     let mut text = [0u8; 6381];
     if let Reported::Written(n) = explain::explain(sheet, &mut text) {
-        print(&text, n);
+        print(rt, &text, n)?;
     }
+    Ok(())
 }
 
 // Nothing for a refused sheet; a written one is never empty, and never longer than this.
-fn print_canonical(sheet: &[u8]) {
-    let mut out = io::large_buffer();
+fn print_canonical(rt: &impl Print, sheet: &[u8]) -> io::Result<()> {
+    let mut out = [0u8; 65536];
     if let SheetWritten::Written(n) = sheet_write::write_sheet(sheet, &mut out) {
-        print(&out, n);
+        print(rt, &out, n)?;
     }
+    Ok(())
 }
 
-fn say_written(n: u64) {
-    io::write_all(STDERR_FILENO, b"written ");
-    io::print_decimal(STDERR_FILENO, n);
-    io::write_all(STDERR_FILENO, b"\n");
+fn say_written(rt: &impl Eprint, n: u64) -> io::Result<()> {
+    eprintln!(rt; "written {n}")
 }
 
 // No words are more than 247 bytes.
-fn print_words(refusal: Refusal) {
+fn print_words(rt: &impl Print, refusal: Refusal) -> io::Result<()> {
     let mut text = [0u8; 247];
     if let Reported::Written(n) = report_words::words(refusal, &mut text) {
-        print(&text, n);
+        print(rt, &text, n)?;
     }
+    Ok(())
 }
 
 // A sheet in a version. Every sheet that is converted has room: none is longer than 57,439 bytes in either version.
@@ -69,14 +92,15 @@ fn convert(to: Version, sheet: &[u8], out: &mut [u8]) -> WriteAnswer {
     }
 }
 
-fn print_converted(to: Version, sheet: &[u8]) {
-    let mut out = io::large_buffer();
+fn print_converted(rt: &(impl Print + Eprint), to: Version, sheet: &[u8]) -> io::Result<()> {
+    let mut out = [0u8; 65536];
     let a = convert(to, sheet, &mut out);
     let n = a.written as usize;
     if a.number == 0 {
-        print(&out, n);
-        say_written(a.written);
+        print(rt, &out, n)?;
+        say_written(rt, a.written)?;
     }
+    Ok(())
 }
 
 // The call that `report_words` takes it for.
@@ -87,18 +111,21 @@ fn call_of(to: Version) -> u64 {
     }
 }
 
-fn print_unconverted(to: Version, sheet: &[u8]) {
-    let mut out = io::large_buffer();
+fn print_unconverted(rt: &impl Print, to: Version, sheet: &[u8]) -> io::Result<()> {
+    let mut out = [0u8; 65536];
     let a = convert(to, sheet, &mut out);
-    print_words(Refusal {
-        call: call_of(to),
-        number: a.number,
-        e: a.place,
-        f: 0,
-        x: 0,
-        y: 0,
-        z: 0,
-    });
+    print_words(
+        rt,
+        Refusal {
+            call: call_of(to),
+            number: a.number,
+            e: a.place,
+            f: 0,
+            x: 0,
+            y: 0,
+            z: 0,
+        },
+    )
 }
 
 // What opening the groups of the input came to; or it fills the buffer, and may be longer.
@@ -114,9 +141,9 @@ fn groups_buffer() -> [u8; 1048576]
     [0; 1048576]
 }
 
-fn open_input(slots: &mut [u8]) -> Taken {
+fn open_input(rt: &impl Input, slots: &mut [u8]) -> Taken {
     let mut groups = groups_buffer();
-    let n = io::read_full(STDIN_FILENO, &mut groups);
+    let n = read_full(rt, &mut groups);
     if n < groups.len() {
         return Taken::Whole(capi_answers::open_answer(groups::open_groups(&groups[..n], slots)));
     }
@@ -124,88 +151,92 @@ fn open_input(slots: &mut [u8]) -> Taken {
 }
 
 // No groups open to more than 512 slots of 56 bytes, and none that are not refused to none.
-fn print_slots() {
+fn print_slots(rt: &(impl Input + Print + Eprint)) -> io::Result<()> {
     let mut out = [0u8; 28672];
-    if let Taken::Whole(a) = open_input(&mut out) {
+    if let Taken::Whole(a) = open_input(rt, &mut out) {
         let n = a.written as usize;
         if a.number == 0 {
-            print(&out, n);
-            say_written(a.written);
+            print(rt, &out, n)?;
+            say_written(rt, a.written)?;
         }
     }
+    Ok(())
 }
 
 // Of 45 and 46 with the group and the item, of the others with the place.
-fn print_refusal(a: OpenAnswer) {
+fn print_refusal(rt: &impl Print, a: OpenAnswer) -> io::Result<()> {
     let mut e = a.place;
     if 45 <= a.number {
         e = a.group;
     }
-    print_words(Refusal {
-        call: 6,
-        number: a.number,
-        e,
-        f: a.item,
-        x: 0,
-        y: 0,
-        z: 0,
-    });
+    print_words(
+        rt,
+        Refusal {
+            call: 6,
+            number: a.number,
+            e,
+            f: a.item,
+            x: 0,
+            y: 0,
+            z: 0,
+        },
+    )
 }
 
-fn print_unopened() {
+fn print_unopened(rt: &(impl Input + Print)) -> io::Result<()> {
     let mut slots = [0u8; 28672];
-    if let Taken::Whole(a) = open_input(&mut slots) {
-        print_refusal(a);
+    if let Taken::Whole(a) = open_input(rt, &mut slots) {
+        print_refusal(rt, a)?;
+    }
+    Ok(())
+}
+
+fn answer(rt: &(impl Print + Eprint), verb: &[u8], sheet: &[u8]) -> io::Result<()> {
+    match verb {
+        b"explain" => print_explained(rt, sheet),
+        b"canonical" => print_canonical(rt, sheet),
+        b"to-2" => print_converted(rt, Version::Two, sheet),
+        b"to-1" => print_converted(rt, Version::One, sheet),
+        b"not-to-2" => print_unconverted(rt, Version::Two, sheet),
+        b"not-to-1" => print_unconverted(rt, Version::One, sheet),
+        _ => Ok(()),
     }
 }
 
-fn answer(verb: &[u8], sheet: &[u8]) {
-    if check::same(verb, b"explain") {
-        print_explained(sheet);
-    } else if check::same(verb, b"canonical") {
-        print_canonical(sheet);
-    } else if check::same(verb, b"to-2") {
-        print_converted(Version::Two, sheet);
-    } else if check::same(verb, b"to-1") {
-        print_converted(Version::One, sheet);
-    } else if check::same(verb, b"not-to-2") {
-        print_unconverted(Version::Two, sheet);
-    } else if check::same(verb, b"not-to-1") {
-        print_unconverted(Version::One, sheet);
-    }
-}
-
-fn answer_sheet(verb: &[u8]) {
-    let mut sheet = io::large_buffer();
-    let n = io::read_full(STDIN_FILENO, &mut sheet);
-    answer(verb, &sheet[..n]);
+fn answer_sheet(rt: &(impl Input + Print + Eprint), verb: &[u8]) -> io::Result<()> {
+    let mut sheet = [0u8; 65536];
+    let n = read_full(rt, &mut sheet);
+    answer(rt, verb, &sheet[..n])
 }
 
 // A verb that is longer than any has no bytes here, and is none.
-fn answer_argument() {
+fn answer_argument(rt: &(impl Env + Input + Print + Eprint)) -> io::Result<()> {
     let mut space = [0u8; 16];
-    let n = os::arg(1, &mut space);
+    let n = rt.arg(1, &mut space).unwrap_or(0);
     let verb = &space[..n];
-    if check::same(verb, b"open") {
-        print_slots();
-    } else if check::same(verb, b"unopened") {
-        print_unopened();
-    } else {
-        answer_sheet(verb);
+    match verb {
+        b"open" => print_slots(rt),
+        b"unopened" => print_unopened(rt),
+        _ => answer_sheet(rt, verb),
     }
 }
 
-fn answer_plain() {
-    let mut sheet = io::large_buffer();
-    let n = io::read_full(STDIN_FILENO, &mut sheet);
-    print_lines(&sheet[..n]);
+fn answer_plain(rt: &(impl Input + Print)) -> io::Result<()> {
+    let mut sheet = [0u8; 65536];
+    let n = read_full(rt, &mut sheet);
+    print_lines(rt, &sheet[..n])
 }
 
-fn main() {
-    let words = os::arg_count();
-    if words < 2 {
-        answer_plain();
-    } else if words == 2 {
-        answer_argument();
+fn has_argument(rt: &impl Env, i: usize) -> bool {
+    !matches!(rt.arg(i, &mut []), Err(FillError::NotPresent))
+}
+
+fn main(rt: HostRuntime) -> io::Result<()> {
+    if !has_argument(&rt, 1) {
+        answer_plain(&rt)
+    } else if !has_argument(&rt, 2) {
+        answer_argument(&rt)
+    } else {
+        Ok(())
     }
 }
