@@ -106,7 +106,7 @@ class File:
 
 
 def file_of(module):
-    m = re.fullmatch(r"Rattle·(\w+)(?:·(?:specs|proofs))?\.(specs|proofs)\.(\w+)", module)
+    m = re.fullmatch(r"Rattle\.(\w+)\.(specs|proofs)\.(\w+)", module)
     if not m:
         return None
     path = ROOT / "crates" / m.group(1) / m.group(2) / f"{m.group(3)}.antt"
@@ -127,16 +127,19 @@ def cited(files, text, brought, aliases, own=None):
     code = "\n".join(re.split(r"--", line)[0] for line in text.split("\n"))
     for token in set(re.findall(SYMBOL, code)):
         token = token.strip("→λ")
-        names = [token, f"_{token}_"]
-        if "." in token and not token.startswith("."):
-            alias, _, rest = token.partition(".")
-            module = file_of(aliases.get(alias, ""))
+        head, _, rest = token.partition(".")
+        if head and rest:
+            module = file_of(aliases.get(head, ""))
             if module:
-                for name in (rest, f"_{rest}_"):
+                for name in (rest, f"◌{rest}◌"):
                     name = files[module].owner.get(name, name)
                     if name in files[module].items:
                         yield module, name
-            continue
+            if head in aliases:
+                continue
+            # a field of what is named
+            token = head
+        names = [token, f"◌{token}◌"]
         for name in names:
             if own and files[own].owner.get(name, name) in files[own].items:
                 yield own, files[own].owner.get(name, name)

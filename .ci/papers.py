@@ -28,9 +28,9 @@ for line in read("crates.txt").splitlines():
     if m:
         group = m.group(1)
         groups[group] = []
-    elif re.match(r"\w+:", line):
-        name, _, rest = line.partition(":")
-        uses[name] = rest.split()
+    elif m := re.fullmatch(r"(\w+)(?: staticlib)?:(.*)", line):
+        name = m.group(1)
+        uses[name] = m.group(2).split()
         if group is None:
             faults.append(f"crates.txt: {name} stands in no group")
         else:
@@ -167,14 +167,15 @@ for source in sorted((root / "crates").glob("*/src/**/*.rt")):
         function = match.group(1)
         body = re.search(r"^[ \t]*\{[ \t]*$", text[match.start() :], re.M)
         head = text[match.start() : match.start() + body.start()] if body else text[match.start() :]
-        if "ensures" not in head:
+        # of what the programs read and print no contract can say anything
+        if "ensures" not in head and not (crate == "cases" and "rt: &impl" in head):
             faults.append(f"{name}: {function} has no ensures")
-        if "⊤ₛ" in head and not crate.startswith("cases"):
+        if re.search("⊤|Unit", head):
             faults.append(f"{name}: the ensures of {function} says nothing")
         if (function in contracts.ENTRY or function.startswith("zakvind_")) and "requires" in head:
             faults.append(f"{name}: the entry point {function} has a requires")
         if function in CALLS and (contracts.ENTRY.get(function) == crate or crate == "capi"):
-            if not re.search(rf"ensures \{{ λ \w+\. ⌜\s+{CALLS[function]}\s", head) or head.count("ensures {") != 1:
+            if not re.search(rf"ensures \{{\s+{CALLS[function]}\s", head) or len(re.findall(r"\bensures\b", head)) != 1:
                 faults.append(f"{name}: the contract of {function} is not its one definition, {CALLS[function]}")
 
 # ---- nothing is divided by a power of two: no `/` and no `%` in align_to up to where it returns past its test, nor in what is called there
@@ -184,8 +185,8 @@ def bodies(crate):
     """The bodies of a crate's functions without comments, and which crate has what it uses."""
     text = re.sub(r"//.*", "", read(f"crates/{crate}/src/lib.rt"))
     functions = re.findall(r"^(?:pub )?fn (\w+)\((.*?^\})", text, re.M | re.S)
-    brought = re.findall(r"^use (\w+)::(\w+);", text, re.M)
-    return {name: re.split(r"(?:^| )\{$", rest, maxsplit=1, flags=re.M)[-1] for name, rest in functions}, {name: of for of, name in brought}
+    brought = {n.strip(): of for of, names in re.findall(r"^use (\w+)::\{?([\w\s,]+)\}?;", text, re.M) for n in names.split(",")}
+    return {name: re.split(r"(?:^| )\{$", rest, maxsplit=1, flags=re.M)[-1] for name, rest in functions}, brought
 
 
 past = re.search(r".*?if is_power_of_two\(alignment\) \{\s*return [^;]*;\s*\}", bodies("scratch")[0].get("align_to", ""), re.S)
@@ -220,12 +221,12 @@ for name, where in sorted(defined.items()):
 
 TRADE = {"plant", "plants", "house", "houses", "row", "rows", "station", "stations", "greenhouse", "grower", "card"}
 for file in sorted((root / "crates").glob("**/*")):
-    if not file.is_file() or "target" in file.parts:
+    if not file.is_file() or {"target", "out"} & set(file.parts):
         continue
     if TRADE & set(re.split(r"[^a-z]+", file.name.lower())):
         faults.append(f"{file.relative_to(root)}: a word of the trade in a file name")
     # a function's own proof cites the logic's names, which are not ours
-    if file.suffix not in {".rt", ".antt"} or file.name == "Proof.antt":
+    if file.suffix not in {".rt", ".antt"} or file.name in {"Proof.antt", "Answers.antt", "Invariants.antt"}:
         continue
     for number, line in enumerate(file.read_text(encoding="utf-8").splitlines(), 1):
         code = re.split(r"//|--", line)[0]

@@ -1194,7 +1194,7 @@ fn main() {
     let paper = format!(
         "# Speed\n\n\
          Written by `bench/run`: one run, {cpu}, {rustc}. The same driver calls both sides with the same inputs, both built for \
-         release (the Rust with opt-level 3; the library as `rt staticlib` makes it, SSE2 only, no inlining into the caller). The \
+         release (the Rust with opt-level 3; the library as `bindings/library` makes it, for x86-64-v2, no inlining into the caller). The \
          least of {SAMPLES} samples of some 200 us each counts, the sides in turn.\n\n\
          Rust: from the same bytes and cells. Rust, made: on the Rust's own types, all made beforehand. A ratio is the Rust's time / \
          Zakvind's.\n\n\

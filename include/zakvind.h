@@ -1,5 +1,5 @@
 /* Zakvind: checks, lays out and orders acceleration structure builds. The functions of libzakvind.a (./install), which is
- * target/staticlib/libcapi.a (rt staticlib capi). Nothing else has to be linked. C99 or C++11.
+ * target/staticlib/libcapi.a (bindings/library). Nothing else has to be linked. C99 or C++11.
  *
  * Every function accepts all bytes and numbers, finishes, and refuses by a number what it won't have; 0 is accepted. A
  * refused call writes no lent byte, except that a refused submission leaves what its earlier actions did, and for 42 in a

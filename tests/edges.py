@@ -1,7 +1,7 @@
 #!/usr/bin/env python3
 """edges.py [PROGRAM]: tries ./zakvind and format/ at the edges. PROGRAM is the proved program, target/bin/zakvind if none is named.
 
-The script is run in copies of the checkout with a stand-in for `rt`, so that a first run takes no minutes: its `try` and `check` hand out
+The script is run in copies of the checkout with a stand-in for `rt`, so that a first run takes no minutes: its `try` and `run` hand out
 PROGRAM, or what a test asks for. Where the real `rt` is at hand, its `try` is used once, so that what the script reads of it is tried too.
 """
 import concurrent.futures
@@ -44,21 +44,18 @@ SHEETS = root / "sheets"
 room = box = None  # the folder of a run, and in it a copy of the checkout whose program is proved
 
 RT = """#!/bin/bash
-# stands in for rt, in the folder that it is called in
+# stands in for rt, in the folder crates/zakvind that it is called in
 case $1 in
 try)
     [ -z "${TRY_FAILS-}" ] || exit 2
     [ -z "${TRIES-}" ] || echo x >>"$TRIES"
-    printf 'FAIL: the native program at -O3 ended, but did not write what is expected\\nwhat the run said:\\nthe program exited with status 0\\n'
-    mapfile -t words < <(cat crates/zakvind/args 2>/dev/null)
-    # bytes come as numbers, as the script has the copy write them, and what is said to standard error behind them
-    "${TRIED-$PROGRAM}" "${words[@]}" <crates/zakvind/stdin 2>said |
-        case ${words[0]-} in canonical | open | to-2 | to-1) od -An -v -tu1 -w1 | tr -d ' ' ;; *) cat ;; esac
-    cat said
-    printf '\\nFAIL: another run\\nthe program exited with status 0\\nsheet 9 9\\n'
-    exit 1
+    "${TRIED-$PROGRAM}" "${@:3}"
+    status=$?
+    printf 'checked: ended status=%s\\nrun=ended status=%s runners=1 proved=no\\n' $status $status >&2
+    exit $status
     ;;
-check)
+run)
+    cd ../.. || exit 2
     mkdir -p target
     mkdir target/busy || touch target/overlap
     echo x >>target/checks
@@ -66,10 +63,11 @@ check)
     for _ in {1..300}; do [ -n "${TRIES-}" ] && [ "$(wc -l <"$TRIES")" -lt 3 ] || break; sleep 0.1; done
     sleep 0.4
     rmdir target/busy
-    [ -z "${CHECK_FAILS-}" ] || { echo 'rt: zakvind NOT PROVED'; exit 1; }
-    mkdir -p target/bin
-    cp "$PROGRAM" target/bin/zakvind
-    echo 'rt: ok, 1 crates proved'
+    [ -z "${CHECK_FAILS-}" ] || { echo 'logic=not-proved' >&2; exit 1; }
+    mkdir -p crates/zakvind/out
+    cp "$PROGRAM" crates/zakvind/out/zakvind
+    echo 'rt: running out/zakvind' >&2
+    echo sheet 2 0
     ;;
 esac
 """
@@ -108,7 +106,7 @@ def checkout():
     copy_program(root / "zakvind", box)
     shutil.copytree(root / "format", box / "format", ignore=shutil.ignore_patterns("__pycache__"))
     (box / "crates/zakvind/src").mkdir(parents=True)
-    (box / "crates/zakvind/src/main.rt").write_text("STDOUT_FILENO\n")
+    (box / "crates/zakvind/src/main.rt").write_text("fn main\n")
     (box / "crates.txt").write_text("zakvind:\n")
     return box
 
@@ -406,7 +404,7 @@ def test_broken_first_runs():
     assert run.status == 2 and "could not be proved" in run.err and "answers the same" not in run.err, run
     assert "before their proofs" in Run(own, usable).err and not Run(own, usable).err
     # sources changed since
-    (own / "crates/zakvind/src/main.rt").write_text("STDOUT_FILENO \n")
+    (own / "crates/zakvind/src/main.rt").write_text("fn main \n")
     assert "before their proofs" in Run(own, usable).err
     # another program in its place
     shutil.copy(shutil.which("true"), own / "target/bin/zakvind")
@@ -480,7 +478,7 @@ def really_tried(name):
         return None
     own = checkout()
     shutil.rmtree(own / "crates")
-    shutil.copytree(root / "crates", own / "crates", ignore=shutil.ignore_patterns("proofs", "must-fail", "stdin", "stdout"))
+    shutil.copytree(root / "crates", own / "crates", ignore=shutil.ignore_patterns("proofs", "must-fail", "stdin", "stdout", "out"))
     shutil.copy(root / "crates.txt", own)
     (room / name).mkdir()
     wrapper = room / name / "rt"
@@ -675,7 +673,7 @@ def test_first_canonical():
         assert run.status == 2 and "could not be proved" in run.err, run
     # bytes that the proved program does not confirm are not followed by others
     liar = room / "other_bytes"
-    put_program(liar, "#!/bin/sh\nhead -c $(wc -c <crates/zakvind/stdin) /dev/zero\n")
+    put_program(liar, "#!/bin/sh\nhead -c $(wc -c) /dev/zero\n")
     run = Run(checkout(), "--canonical", usable, env=environment(TRIED=liar))
     assert run.status == 2 and run.out == bytes(len(sheet("usable"))) and "are not its answer" in run.err, run
     run = Run(checkout(), "--same", usable, usable, env=environment(TRIED=liar))
@@ -1387,7 +1385,7 @@ def main():
 
 if __name__ == "__main__":
     if not PROGRAM.is_file():
-        sys.exit(f"edges: {PROGRAM} is not there: rt check zakvind makes it")
+        sys.exit(f"edges: {PROGRAM} is not there: ./zakvind of a sheet makes it")
     room = pathlib.Path(tempfile.mkdtemp(prefix="edges."))
     try:
         status = main()

@@ -1,5 +1,5 @@
 //! Finds the static library: in `ZAKVIND_LIB_DIR`, beside this package, in the `lib` folder of the prefix that it is installed in,
-//! or where the repository's `rt staticlib` puts it.
+//! or where the repository's `bindings/library` puts it.
 use std::env;
 use std::path::{Path, PathBuf};
 
@@ -18,7 +18,7 @@ fn main() {
     };
     let Some((file, name)) = folders.iter().find_map(|folder| archive(folder)) else {
         println!(
-            "cargo::error=libzakvind.a is in none of {folders:?}; `rt staticlib capi` makes it, ZAKVIND_LIB_DIR names its folder"
+            "cargo::error=libzakvind.a is in none of {folders:?}; `bindings/library` makes it, ZAKVIND_LIB_DIR names its folder"
         );
         return;
     };

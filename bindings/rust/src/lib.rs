@@ -34,7 +34,7 @@
 //! The bytes that a build or an append wrote for instances are read back by [`read_instances`], each number by its bits.
 //!
 //! The package finds the static library in the folder `ZAKVIND_LIB_DIR`, beside itself, in the prefix that it is installed in, or
-//! where the repository's `rt staticlib capi` puts it.
+//! where the repository's `bindings/library` puts it.
 #![deny(missing_docs)]
 #![deny(clippy::as_conversions, clippy::indexing_slicing, clippy::panic, clippy::unwrap_used, clippy::expect_used)]
 #![deny(clippy::unreachable, clippy::arithmetic_side_effects)]
