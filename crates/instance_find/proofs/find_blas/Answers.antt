@@ -2,7 +2,6 @@
 use Rattle.std.proofs.Common.{◌-◌, sym, ◌∙◌, arith}
 use Rattle.instance_find.specs.Index.{bucket_of}
 use Rattle.instance_find.proofs.Index.{candidate_within, searched_start, searched_first, searched_other, searched_second, searched_end}
-use Rattle.instance_find.proofs.find_blas.Goals.{then-handle_of-address+else-one-gt0, else-handle_of-address}
 use Rattle.instance_find.proofs.find_blas.Goals as goal
 
 pub loop-n-init : goal.loop-n-init
@@ -22,16 +21,8 @@ loop-n-smaller c =
 
 pub loop-n-preserved : goal.loop-n-preserved
 loop-n-preserved c =
-    let l = c.loop-n in
-    let bl = c.args.blases.now in
-    let k = l.n - 1 in
     rw c.candidate_before-n.ensures
-    (elim c.if-handle_of-address.branch [
-      | then-handle_of-address+else-one-gt0 w ↦
-          rw w.one-is (searched_first bl c.args.address l.one l.n l.invariant (omega arith) (sym c.handle_of.ensures ∙ w.if-handle_of-address.true) (omega arith))
-      | else-handle_of-address w ↦
-          rw w.one-is (searched_other bl c.args.address l.one l.n l.invariant (omega arith) (λ q. w.if-handle_of-address.false (c.handle_of.ensures ∙ q)))
-    ])
+    (grind (arith, searched_first c.args.blases.now c.args.address, searched_other c.args.blases.now c.args.address))
 
 pub returns : goal.returns
 returns c =

@@ -65,4 +65,4 @@ returns c =
     let g = c.loop-k.invariant in
     let h = c.loop-k-test.false in
     ap accepted (c.sheet_from.ensures ∙ sheet-found _ _ _ _ _ _ g h)
-    ∙ sym (read _ _ _ _ _ _ g h c.if-p-sheet.false)
+    ∙ sym (read _ _ _ _ _ _ g h (omega arith))

@@ -88,5 +88,5 @@ returns c =
       ← c.size_of.ensures,
       ← c.judge_table-judged.ensures,
       c.in_default.is,
-      eq-eqb _ 0 (none_left _ _ _ c.records_in-n.ensures c.if-n-size.false),
+      eq-eqb _ 0 (none_left _ _ _ c.records_in-n.ensures (omega arith)),
     )
