@@ -2,7 +2,7 @@
 #![tactic(auto)]
 
 ghost use Rattle.std.specs.Prelude.{◌≡◌, ◌*◌, ◌≤◌, ◌<◌, length};
-ghost use Rattle.cases.specs.First.{at_most, first_few};
+ghost use Rattle.cases.specs.First.{at_most, first_few, IsPrefixLen};
 ghost use Rattle.cases.specs.Hash.{hash, hash_step};
 
 use std::io;
@@ -11,7 +11,7 @@ use std::io::Read;
 // The next n bytes of the input, put first, and how many there were: fewer at the input's end, none where there is no room for n. A read that
 // fails ends the input.
 pub fn fill(rt: &impl Input, bytes: &mut [u8], n: usize) -> usize
-    ensures { (result ≤ length bytes.new) × (result ≤ n) }
+    ensures { IsPrefixLen result bytes.new × (result ≤ n) }
 {
     if bytes.len() < n {
         return 0;
@@ -40,7 +40,7 @@ pub fn next_u32(rt: &impl Input) -> usize
     wire::u32_at(&bytes, 0) as usize
 }
 
-// 0 at the input's end.
+// 0 at the input's end. The result is free: what the input gives no contract can say.
 pub fn next_u64(rt: &impl Input) -> u64 {
     let mut bytes = [0u8; 8];
     fill(rt, &mut bytes, 8);
@@ -69,7 +69,7 @@ fn take_u32(cells: &mut [u32], bytes: &[u8], n: usize)
 
 // The next n cells, as `fill`; at most 32,768.
 pub fn fill_u16(rt: &impl Input, cells: &mut [u16], n: usize) -> usize
-    ensures { (result ≤ length cells.new) × (result ≤ n) }
+    ensures { IsPrefixLen result cells.new × (result ≤ n) }
 {
     if cells.len() < n || 32768 < n {
         return 0;
@@ -82,7 +82,7 @@ pub fn fill_u16(rt: &impl Input, cells: &mut [u16], n: usize) -> usize
 
 // The next n cells, as `fill`; at most 16,384.
 pub fn fill_u32(rt: &impl Input, cells: &mut [u32], n: usize) -> usize
-    ensures { (result ≤ length cells.new) × (result ≤ n) }
+    ensures { IsPrefixLen result cells.new × (result ≤ n) }
 {
     if cells.len() < n || 16384 < n {
         return 0;
@@ -176,7 +176,7 @@ pub fn hash_u64(s: &[u64]) -> u64
     h
 }
 
-// Each number and a space. What is written no contract can say.
+// Each number and a space: what is written, and whether it could be, no contract can say.
 pub fn print_words(rt: &impl Print, numbers: &[u64]) -> io::Result<()> {
     let mut i = 0;
     while i < numbers.len() {
@@ -187,7 +187,7 @@ pub fn print_words(rt: &impl Print, numbers: &[u64]) -> io::Result<()> {
     Ok(())
 }
 
-// The last number and a line end, each other as in `print_words`.
+// The last number and a line end, each other as in `print_words`: what is written no contract can say.
 pub fn print_line(rt: &impl Print, numbers: &[u64]) -> io::Result<()> {
     let n = numbers.len();
     if 0 < n {
@@ -199,7 +199,7 @@ pub fn print_line(rt: &impl Print, numbers: &[u64]) -> io::Result<()> {
     println!(rt;)
 }
 
-// The first n bytes of a text, where there are so many; else nothing.
+// The first n bytes of a text, where there are so many; else nothing: what is written no contract can say.
 pub fn print_first(rt: &impl Print, text: &[u8], n: usize) -> io::Result<()> {
     if n <= text.len() {
         rt.write_all(&text[0..n])?;
