@@ -1,8 +1,8 @@
 -- "Last: 39", by the counts and the lengths of what is lent; and what writing asks of an answer. Assumes nothing.
-use Rattle.std.specs.Prelude.{ℕ, ◌≤◌, ◌≡◌, Bool, ◌||◌, List, length, ltb}
+use Rattle.std.specs.Prelude.{ℕ, ◌≤◌, Bool, ◌||◌, List, length, ltb}
 use Rattle.ray_tracing.specs.declared.Written.{Written}
 use Rattle.ray_tracing.specs.Causes.{bare}
-use Rattle.ray_tracing.specs.Plan.{Tables, Outputs, refused, on, Building, recorded, nothing-recorded, unless}
+use Rattle.ray_tracing.specs.Plan.{Tables, Outputs, refused, on, Building, recorded, nothing-recorded, not_built, unless}
 use Rattle.ray_tracing.specs.Parts.{entries_in}
 use Rattle.build_ranges.specs.Ranges.{all_ranges, DrawnFit}
 use Rattle.build_plan.specs.Planned.{planned, Plannable, PlanRoom}
@@ -24,21 +24,11 @@ recorded_if size w lent = unless (on (short_of w lent) (refused 0 0 (bare 39))) 
 abbrev pub nothing_if : ℕ → ℕ → Building
 nothing_if cells lent = unless (on (ltb lent cells) (refused 0 0 (bare 39))) (nothing-recorded cells)
 
--- what is written, from the sections that it looks at
-abbrev pub plan_from : Tables → Outputs
-plan_from x = planned x.version x.alignment x.blases x.tlases x.entries x.geometries x.packages x.slots
-
 abbrev pub ranges_out : Tables → List ℕ
 ranges_out x = all_ranges x.version x.entries x.geometries 0 0 (entries_in x.entries)
 
 -- what an answer may write was judged, and has room
-pub record Writes (b : Building) (x : Tables) (o : Outputs) : Type 0 where
-  pub plan :
-      (n : ℕ) (w : Written)
-      → b ≡ recorded n w
-      → Plannable x.version x.alignment x.blases x.tlases x.entries x.geometries x.packages x.slots
-      × PlanRoom (plan_from x) o
-  pub ranges :
-      (n : ℕ)
-      → b ≡ nothing-recorded n
-      → DrawnFit x.version x.entries x.geometries × (length (ranges_out x) ≤ length o.init_ranges)
+abbrev pub Writes : Building → Tables → Outputs → Type 0
+Writes (recorded n w) x o = Plannable x × PlanRoom (planned x) o
+Writes (nothing-recorded n) x o = DrawnFit x.version x.entries x.geometries × (length (ranges_out x) ≤ length o.init_ranges)
+Writes (not_built e f c) x o = Unit

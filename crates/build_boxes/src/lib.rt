@@ -1,17 +1,14 @@
 // The checks of a geometry of boxes, in wgpu-core's order: against what its Blas declares, then the buffer that it names.
-#![tactic(auto)]
+#![tactic(auto, unfolding(ray_tracing::specs::Guard::refuse))]
 
-ghost use Rattle.std.specs.Prelude.{◌≡◌, ◌||◌, ◌+◌, ◌*◌, ltb};
-ghost use Rattle.scratch.specs.Scratch.{stopped};
-ghost use Rattle.ray_tracing.specs.Checks.{limit32};
+ghost use Rattle.std.specs.Prelude.{◌≡◌, ◌+◌, ltb};
 ghost use Rattle.ray_tracing.specs.Code.{checked_of, declared_given};
 ghost use Rattle.ray_tracing.specs.Boxes.{region_rule, given_rule, boxes_rule};
 
 use ray_tracing::{
-    Asked, Blas, BlasGeometry, BlasGeometrySizeDescriptor, Buffer,
-    BuildAccelerationStructureError as Error, CheckedGeometry, Declared, Range, Resource, either,
+    Blas, BlasGeometry, BlasGeometrySizeDescriptor, Buffer,
+    BuildAccelerationStructureError as Error, GeometryRanges, Range, Resource,
 };
-use scratch::saturating_mul;
 
 const LIMIT: u64 = 4294967295;
 
@@ -22,77 +19,67 @@ const BOX_SIZE: u64 = 24;
 fn ends_past(start: u64, region: u64, size: u64) -> bool
     ensures { result ≡ ltb size (start + region) }
 {
-    if size < region {
-        return true;
+    match start.checked_add(region) {
+        Some(end) => size < end,
+        None => true,
     }
-    if size - region < start {
-        return true;
-    }
-    false
 }
 
-// 21, 22, 26, 23. The region and the test for 26 come first.
-fn check_region(g: BlasGeometry, boxes: Buffer) -> CheckedGeometry
-    ensures { checked_of result ≡ region_rule g boxes }
-{
-    let region = saturating_mul(g.count as u64, g.stride);
-    let above = either(LIMIT < g.stride, LIMIT < region);
-    judge_region(g, region, above, boxes)
-}
-
-fn judge_region(g: BlasGeometry, region: u64, above: bool, boxes: Buffer) -> CheckedGeometry
-    requires region_value { region ≡ stopped (g.count * g.stride) }
-    requires above_value { above ≡ (ltb limit32 g.stride || ltb limit32 region) }
+// 21, 22, 26, 23.
+fn check_region(g: BlasGeometry, boxes: Buffer) -> Result<GeometryRanges, Error>
     ensures { checked_of result ≡ region_rule g boxes }
 {
     let buffer = g.buffer;
-    let start = g.first;
     if boxes.destroyed {
-        return CheckedGeometry::Refused(Error::DestroyedResource(Resource::Buffer(buffer)));
+        return Err(Error::DestroyedResource(Resource::Buffer(buffer)));
     }
     if !boxes.blas_input {
-        return CheckedGeometry::Refused(Error::MissingBufferUsage(buffer));
+        return Err(Error::MissingBufferUsage(buffer));
     }
-    if above {
-        return CheckedGeometry::Refused(Error::OffsetLimitedTo4GB {
-            offset: region,
-            count: g.count as u64,
+    let start = g.first;
+    let count = u64::from(g.count);
+    if LIMIT < g.stride || LIMIT < count * g.stride {
+        return Err(Error::OffsetLimitedTo4GB {
+            offset: count.saturating_mul(g.stride),
+            count,
             stride: g.stride,
         });
     }
+    let region = count * g.stride;
     if ends_past(start, region, boxes.size) {
-        return CheckedGeometry::Refused(Error::InsufficientBufferSize {
+        return Err(Error::InsufficientBufferSize {
             offset: start,
             region_size: region,
             buffer_size: boxes.size,
         });
     }
     let end = start + region;
-    CheckedGeometry::Fine {
-        data: Range { buffer, start, end },
-        index: Asked::Nothing,
-        transform: Asked::Nothing,
-    }
+    Ok(GeometryRanges {
+        primitives: Range { buffer, start, end },
+        index: None,
+        transform: None,
+    })
 }
 
 // 12, 31, 32, 33, then the buffer.
-fn check_given(d: BlasGeometrySizeDescriptor, g: BlasGeometry, boxes: Buffer) -> CheckedGeometry
+fn check_given(
+    d: BlasGeometrySizeDescriptor,
+    g: BlasGeometry,
+    boxes: Buffer,
+) -> Result<GeometryRanges, Error>
     ensures { checked_of result ≡ given_rule d g boxes }
 {
-    let invalid_stride = either(g.stride < BOX_SIZE, g.stride % 8 != 0);
     if d.flags != g.flags {
-        return CheckedGeometry::Refused(Error::IncompatibleBlasFlags(d.flags, g.flags));
+        return Err(Error::IncompatibleBlasFlags(d.flags, g.flags));
     }
     if d.count < g.count {
-        return CheckedGeometry::Refused(Error::IncompatibleBlasAabbPrimitiveCount(
-            d.count, g.count,
-        ));
+        return Err(Error::IncompatibleBlasAabbPrimitiveCount(d.count, g.count));
     }
     if g.first % 8 != 0 {
-        return CheckedGeometry::Refused(Error::UnalignedAabbPrimitiveOffset);
+        return Err(Error::UnalignedAabbPrimitiveOffset);
     }
-    if invalid_stride {
-        return CheckedGeometry::Refused(Error::InvalidAabbStride(g.stride));
+    if g.stride < BOX_SIZE || g.stride % 8 != 0 {
+        return Err(Error::InvalidAabbStride(g.stride));
     }
     check_region(g, boxes)
 }
@@ -100,17 +87,17 @@ fn check_given(d: BlasGeometrySizeDescriptor, g: BlasGeometry, boxes: Buffer) ->
 // 10, 11, and then what the declared sizes rule.
 pub fn check_aabbs(
     blas: Blas,
-    declared: Declared,
+    declared: Option<BlasGeometrySizeDescriptor>,
     g: BlasGeometry,
     boxes: Buffer,
-) -> CheckedGeometry
+) -> Result<GeometryRanges, Error>
     ensures { checked_of result ≡ boxes_rule blas (declared_given declared) g boxes }
 {
     if blas.kind != 1 {
-        return CheckedGeometry::Refused(Error::BlasGeometryKindMismatch);
+        return Err(Error::BlasGeometryKindMismatch);
     }
-    match declared {
-        Declared::Missing => CheckedGeometry::Refused(Error::IncompatibleBlasBuildSizes),
-        Declared::Given(d) => check_given(d, g, boxes),
-    }
+    let Some(d) = declared else {
+        return Err(Error::IncompatibleBlasBuildSizes);
+    };
+    check_given(d, g, boxes)
 }

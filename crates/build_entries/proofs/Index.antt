@@ -10,12 +10,12 @@ use mathlib.Core.List.{List, ◌∷◌}
 use lib.ListN.{length, get_or, set, replicate, get_or-replicate}
 use lib.Seq.{get_or-set_same, get_or-set_other}
 use lib.Dec.{ltb, eqb}
-use borrow.Author.Tests.{lt-ltb, le-ltb, eq-eqb, ne_eqb, eqb-true, eqb-false, ltb-true, ltb-false}
+use borrow.Author.Tests.{lt-ltb, le-ltb, eq-eqb, ne_eqb, eqb-true, eqb-false}
 use Rattle.ray_tracing.specs.declared.BlasGeometrySizeDescriptor.{BlasGeometrySizeDescriptor}
 use Rattle.ray_tracing.specs.Records.{declared_at}
 use Rattle.ray_tracing.specs.Layout.{size}
 use Rattle.ray_tracing.specs.Plan.{declared_from, nth}
-use Rattle.build_entries.specs.Index.{declared_in, blas_of_declared, nth_from, nth_of, standing, Heads, Nexts, following}
+use Rattle.build_entries.specs.Index.{declared_in, blas_of_declared, nth_from, nth_of, standing, Heads, Nexts}
 
 by_bool : (P : Bool → Type 0) (b : Bool) → (b ≡ true → P true) → (b ≡ false → P false) → P b
 by_bool P true x y = x refl
@@ -140,7 +140,7 @@ module _ (t : List ℕ) (blas : ℕ) where
 
   -- following the index
 
-  follow_inside :
+  pub follow_inside :
       (next : List ℕ) → Nexts t next → (j k : ℕ) → k ≡ nth_of t blas j → k < declared_in t → get_or next k 0 ≡ nth_of t blas (j + 1)
   follow_inside next h j k e l =
       let r = nth-next (declared_in t) 0 j (omega arith) in
@@ -148,15 +148,9 @@ module _ (t : List ℕ) (blas : ℕ) where
       let y : blas_of_declared t k ≡ blas = ap (blas_of_declared t) e ∙ r.0 in
       h k l ∙ (λ i. nth_from t (y i) (e i + 1) (z i) 0) ∙ sym r.1 ∙ ap (nth_of t blas) (sym (add-one j))
 
-  follow_end : (j k : ℕ) → k ≡ nth_of t blas j → declared_in t ≤ k → k ≡ nth_of t blas (j + 1)
+  pub follow_end : (j k : ℕ) → k ≡ nth_of t blas j → declared_in t ≤ k → k ≡ nth_of t blas (j + 1)
   follow_end j k e l =
       omega (arith, nth_end (declared_in t) 0 j (omega arith), ap (nth_of t blas) (add-one j), nth_within j)
-
-  pub follow : (next : List ℕ) → Nexts t next → (j k : ℕ) → k ≡ nth_of t blas j → following t next k ≡ nth_of t blas (j + 1)
-  follow next h j k e =
-      by_bool (λ (b : Bool). cond b (get_or next k 0) k ≡ nth_of t blas (j + 1)) (ltb k (declared_in t))
-      (λ p. follow_inside next h j k e (ltb-true k (declared_in t) p))
-      (λ p. follow_end j k e (ltb-false k (declared_in t) p))
 
 -- ---- the pass that makes the index, from the last declared geometry to the first
 

@@ -1,104 +1,109 @@
 // Entries, geometries in turn: each against what its Blas declares, found by an index of section 3.
 #![tactic(auto)]
 
-ghost use Rattle.std.specs.Prelude.{◌≡◌, [], ℕ, ◌+◌, ◌*◌, ◌/◌, ◌≤◌, ◌<◌, length};
+ghost use Rattle.std.specs.Prelude.{◌≡◌, ℕ, ◌+◌, ◌/◌, ◌≤◌, ◌<◌, length};
 ghost use Rattle.ray_tracing.specs.Layout.{layout, size};
 ghost use Rattle.ray_tracing.specs.Mentions.{buffer_of};
 ghost use Rattle.ray_tracing.specs.Code.{checked_of, buffer_given, declared_given, verdict_of};
 ghost use Rattle.ray_tracing.specs.Triangles.{unless_none};
-ghost use Rattle.ray_tracing.specs.Plan.{first_of, first_drawing, entry_of, geometry_count, checked_at, checked_e};
-ghost use Rattle.ray_tracing.specs.Plan.{judge_entry, judge_entries};
-ghost use Rattle.ray_tracing.proofs.Inside.{Named};
-ghost use Rattle.ray_tracing.specs.Parts.{for_entries, of_entries, entries_in};
-ghost use Rattle.build_entries.specs.Index.{Indexable, Heads, Nexts, declared_in, nth_of, following, standing};
+ghost use Rattle.ray_tracing.specs.Plan.{lent_tables, records_in, judge_entry, judge_entries};
+ghost use Rattle.ray_tracing.proofs.Inside.{Named, drawn_before};
+ghost use Rattle.build_entries.specs.Index.{Indexable, Heads, Nexts, declared_in, nth_of, standing};
 ghost use Rattle.build_entries.specs.Kinds.{by_kind};
-ghost use Rattle.build_entries.specs.Within.{GeometryInside, EntriesInside};
+ghost use Rattle.build_entries.specs.Within.{EntriesInside};
 
 use build_boxes::check_aabbs;
 use build_triangles::check_triangles;
 use ray_tracing::{
-    BUFFER_SIZE, Blas, BlasGeometry, BlasId, BufferId, CheckedGeometry, DECLARED_SIZE, Declared,
-    ENTRY_SIZE, GivenBuffer, NO_BUFFER, Verdict, Version,
+    BUFFER_SIZE, Blas, BlasGeometry, BlasGeometrySizeDescriptor, BlasId, Buffer, BufferId,
+    BuildAccelerationStructureError, BuildRefusal, BuildTables, DECLARED_SIZE, ENTRY_SIZE,
+    GeometryRanges, NO_BUFFER,
 };
 use records::{blas_of_entry, buffer_at, declared_at, entry_at, geometry_count, geometry_of};
 use wire::u16_at;
-
-fn wide(x: u16) -> usize
-    ensures { result ≡ x }
-{
-    x as usize
-}
 
 // As many as sections 2 and 3 may have.
 const MOST_BLASES: usize = 128;
 
 const MOST_DECLARED: usize = 512;
 
-// For each Blas its first declared geometry, and for each declared geometry the next of the same Blas; how many there are where
-// there is none.
+// Section 3 with an index: for each Blas its first declared geometry, and for each declared geometry the next of the same Blas; how
+// many there are where there is none: a number that is below no count, so that `get` needs one test; an `Option` takes two cells.
 #[derive(Clone, Copy)]
-pub struct DeclaredIndex {
-    pub head: [u16; MOST_BLASES],
-    pub next: [u16; MOST_DECLARED],
+struct DeclaredIndex<'a> {
+    declared: &'a [u8],
+    head: [u16; MOST_BLASES],
+    next: [u16; MOST_DECLARED],
+    ghost few: { declared_in declared.now ≤ (layout 3).most },
+    ghost heads: { Heads declared.now head },
+    ghost nexts: { Nexts declared.now next },
 }
 
-// One pass, from the last to the first.
-fn index_declared(declared: &[u8]) -> DeclaredIndex
-    requires { Indexable declared.now }
-    ensures { (Heads declared.now result.head) × (Nexts declared.now result.next) }
-{
-    let n = declared.len() / DECLARED_SIZE;
-    let mut head = [n as u16; MOST_BLASES];
-    let mut next = [0u16; MOST_DECLARED];
-    let mut i = n;
-    while 0 < i {
-        i -= 1;
-        let blas = u16_at(declared, i * DECLARED_SIZE) as usize;
-        next[i] = head[blas];
-        head[blas] = i as u16;
+impl<'a> DeclaredIndex<'a> {
+    // One pass, from the last to the first.
+    fn new(declared: &'a [u8]) -> DeclaredIndex<'a>
+        requires { Indexable declared.now }
+        ensures { result.declared.now ≡ declared.now }
+    {
+        let n = declared.len() / DECLARED_SIZE;
+        let mut head = [n as u16; MOST_BLASES];
+        let mut next = [0u16; MOST_DECLARED];
+        for i in (0..n).rev() {
+            let blas = u16_at(declared, i * DECLARED_SIZE) as usize;
+            next[i] = head[blas];
+            head[blas] = i as u16;
+        }
+        DeclaredIndex {
+            declared,
+            head,
+            next,
+        }
     }
-    DeclaredIndex { head, next }
-}
 
-// The first declared geometry of a Blas.
-fn first_declared(declared: &[u8], head: &[u16; MOST_BLASES], blas: BlasId) -> usize
-    requires { (Heads declared.now head.now) × (blas.0 < (layout 2).most) }
-    ensures { result ≡ nth_of declared.now blas.0 0 }
-{
-    let b = blas.0 as usize;
-    wide(head[b])
-}
-
-// The one after it.
-fn next_declared(declared: &[u8], next: &[u16; MOST_DECLARED], at: usize) -> usize
-    requires { declared_in declared.now ≤ (layout 3).most }
-    ensures { result ≡ following declared.now next.now at }
-{
-    if at < declared.len() / DECLARED_SIZE {
-        wide(next[at])
-    } else {
-        at
+    // Where the first declared geometry of a Blas stands.
+    fn first(&self, blas: BlasId) -> usize
+        requires { blas.0 < (layout 2).most }
+        ensures { result ≡ nth_of self.now.declared.now blas.0 0 }
+    {
+        usize::from(self.head[blas.0 as usize])
     }
-}
 
-fn declared_standing(declared: &[u8], at: usize) -> Declared
-    ensures { declared_given result ≡ standing declared.now at }
-{
-    if at < declared.len() / DECLARED_SIZE {
-        return Declared::Given(declared_at(declared, at * DECLARED_SIZE));
+    // Where the one after it stands.
+    #[tactic(auto, using(crate::proofs::Index::follow_inside, crate::proofs::Index::follow_end))]
+    fn after(&self, at: usize) -> usize
+        ensures { (blas j : ℕ)
+            → at ≡ nth_of self.now.declared.now blas j
+            → result ≡ nth_of self.now.declared.now blas (j + 1) }
+    {
+        if at < self.declared.len() / DECLARED_SIZE {
+            usize::from(self.next[at])
+        } else {
+            at
+        }
     }
-    Declared::Missing
+
+    // The declared geometry that stands there, if one does.
+    fn get(&self, at: usize) -> Option<BlasGeometrySizeDescriptor>
+        ensures { declared_given result ≡ standing self.now.declared.now at }
+    {
+        if at < self.declared.len() / DECLARED_SIZE {
+            Some(declared_at(self.declared, at * DECLARED_SIZE))
+        } else {
+            None
+        }
+    }
 }
 
 // The buffer of an id that may be none.
-fn given_buffer(buffers: &[u8], id: BufferId) -> GivenBuffer
+fn given_buffer(buffers: &[u8], id: BufferId) -> Option<Buffer>
     requires { Named id.0 (length buffers.now / size 1) }
     ensures { buffer_given result ≡ unless_none (buffer_of buffers.now) id.0 }
 {
     if id.0 == NO_BUFFER {
-        return GivenBuffer::Absent;
+        None
+    } else {
+        Some(buffer_at(buffers, id.0 as usize * BUFFER_SIZE))
     }
-    GivenBuffer::Given(buffer_at(buffers, id.0 as usize * BUFFER_SIZE))
 }
 
 // A geometry by its entry's kind, against what its Blas declares for it.
@@ -106,16 +111,15 @@ fn check_geometry(
     buffers: &[u8],
     kind: u8,
     blas: Blas,
-    declared: Declared,
+    declared: Option<BlasGeometrySizeDescriptor>,
     g: BlasGeometry,
-) -> CheckedGeometry
+) -> Result<GeometryRanges, BuildAccelerationStructureError>
     requires buffer_in_bounds { g.buffer.0 < length buffers.now / size 1 }
     requires named { (kind ≡ 0 → Named g.index_buffer.0 (length buffers.now / size 1))
         × (kind ≡ 0 → Named g.transform_buffer.0 (length buffers.now / size 1)) }
     ensures { checked_of result ≡ by_kind buffers.now kind blas (declared_given declared) g }
 {
-    let id = g.buffer;
-    let data = buffer_at(buffers, id.0 as usize * BUFFER_SIZE);
+    let data = buffer_at(buffers, g.buffer.0 as usize * BUFFER_SIZE);
     if kind != 0 {
         return check_aabbs(blas, declared, g, data);
     }
@@ -124,200 +128,49 @@ fn check_geometry(
     check_triangles(blas, declared, g, data, index, transform)
 }
 
-// The j-th geometry of entry i, which is geometry g, and for which its Blas declares what stands at a place of section 3.
-fn check_geometry_at(
-    version: Version,
-    buffers: &[u8],
-    blases: &[u8],
-    declared: &[u8],
-    entries: &[u8],
-    geometries: &[u8],
-    i: usize,
-    j: usize,
-    g: usize,
-    at: usize,
-) -> CheckedGeometry
-    requires geometry_inside { GeometryInside
-        (for_entries version buffers.now blases.now declared.now entries.now geometries.now) i g }
-    requires at_value { at ≡ nth_of declared.now (entry_of (of_entries [] entries.now) i).blas.0 j }
-    ensures { checked_of result
-        ≡ checked_at
-        (for_entries version buffers.now blases.now declared.now entries.now
-        geometries.now)
-        i
-        j
-        g }
-{
-    let entry = entry_at(entries, i * ENTRY_SIZE);
-    let blas = blas_of_entry(blases, entries, i);
-    let geometry = geometry_of(version, geometries, g);
-    let descriptor = declared_standing(declared, at);
-    check_geometry(buffers, entry.kind, blas, descriptor, geometry)
-}
-
-// What a check finds, at E.
-fn checked_verdict(c: CheckedGeometry, i: usize, j: usize) -> Verdict
-    ensures { verdict_of result ≡ checked_e i j (checked_of c) }
-{
-    match c {
-        CheckedGeometry::Refused(e) => Verdict::Refused(e, i, j),
-        _ => Verdict::Passed,
-    }
-}
-
-// The geometries of entry i, from geometry g on; its Blas declares the first at a place.
-fn judge_geometries(
-    version: Version,
-    buffers: &[u8],
-    blases: &[u8],
-    declared: &[u8],
-    entries: &[u8],
-    geometries: &[u8],
-    next: &[u16; MOST_DECLARED],
-    i: usize,
-    g: usize,
-    place: usize,
-    count: usize,
-) -> Verdict
-    requires by_index { (j : ℕ)
-        → j < count
-        → GeometryInside (for_entries version buffers.now blases.now declared.now entries.now geometries.now) i (g + j) }
-    requires place_value { place ≡ nth_of declared.now (entry_of (of_entries [] entries.now) i).blas.0 0 }
-    requires nexts { Nexts declared.now next.now × (declared_in declared.now ≤ (layout 3).most) }
-    ensures { verdict_of result
-        ≡ first_of
-        (λ j.
-        checked_e
-        i
-        j
-        (checked_at
-        (for_entries version buffers.now blases.now declared.now entries.now
-        geometries.now)
-        i
-        j
-        (g + j)))
-        0
-        count }
-{
-    let mut at = place;
-    let mut j: usize = 0;
-    while j < count {
-        let checked = check_geometry_at(
-            version,
-            buffers,
-            blases,
-            declared,
-            entries,
-            geometries,
-            i,
-            j,
-            g + j,
-            at,
-        );
-        let v = checked_verdict(checked, i, j);
-        if let Verdict::Refused(_, _, _) = v {
-            return v;
-        }
-        at = next_declared(declared, next, at);
-        j += 1;
-    }
-    Verdict::Passed
-}
-
 // Entry i, whose geometries stand from geometry g on.
+#[tactic(auto, using(crate::proofs::Within::in_turn))]
 fn judge_entry(
-    version: Version,
-    buffers: &[u8],
-    blases: &[u8],
-    declared: &[u8],
-    entries: &[u8],
-    geometries: &[u8],
-    head: &[u16; MOST_BLASES],
-    next: &[u16; MOST_DECLARED],
+    tables: &BuildTables<'_>,
+    index: &DeclaredIndex<'_>,
     i: usize,
     g: usize,
-    count: usize,
-) -> Verdict
-    requires by_index { (j : ℕ)
-        → j < count
-        → GeometryInside (for_entries version buffers.now blases.now declared.now entries.now geometries.now) i (g + j) }
-    requires size_in_bounds { i * size 5 + size 5 ≤ length entries.now }
-    requires i_bound { (entry_of (of_entries [] entries.now) i).blas.0 < (layout 2).most }
-    requires count_value { count ≡ geometry_count (of_entries [] entries.now) i }
-    requires heads { Heads declared.now head.now × Nexts declared.now next.now × (declared_in declared.now ≤ (layout 3).most) }
-    ensures { verdict_of result
-        ≡ judge_entry
-        (for_entries version buffers.now blases.now declared.now entries.now
-        geometries.now)
-        i
-        g }
+) -> Result<(), BuildRefusal>
+    requires declared { index.now.declared.now ≡ tables.now.declared.now }
+    requires inside { EntriesInside (lent_tables tables.now) }
+    requires entry { (i < records_in (lent_tables tables.now) 5) × (g ≡ drawn_before (lent_tables tables.now) i) }
+    ensures { verdict_of result ≡ judge_entry (lent_tables tables.now) i g }
 {
-    let entry = entry_at(entries, i * ENTRY_SIZE);
-    let place = first_declared(declared, head, entry.blas);
-    judge_geometries(
-        version, buffers, blases, declared, entries, geometries, next, i, g, place, count,
-    )
-}
-
-fn judge_each(
-    version: Version,
-    buffers: &[u8],
-    blases: &[u8],
-    declared: &[u8],
-    entries: &[u8],
-    geometries: &[u8],
-    head: &[u16; MOST_BLASES],
-    next: &[u16; MOST_DECLARED],
-) -> Verdict
-    requires entries_inside { EntriesInside (for_entries version buffers.now blases.now declared.now entries.now geometries.now) }
-    requires heads { Heads declared.now head.now × Nexts declared.now next.now × (declared_in declared.now ≤ (layout 3).most) }
-    ensures { verdict_of result
-        ≡ first_drawing
-        (judge_entry
-        (for_entries version buffers.now blases.now declared.now entries.now
-        geometries.now))
-        (geometry_count (of_entries [] entries.now))
-        0
-        0
-        (entries_in entries.now) }
-{
-    let n = entries.len() / ENTRY_SIZE;
-    let mut i: usize = 0;
-    let mut g: usize = 0;
-    while i < n {
-        let count = geometry_count(entries, i);
-        let v = judge_entry(
-            version, buffers, blases, declared, entries, geometries, head, next, i, g, count,
-        );
-        if let Verdict::Refused(_, _, _) = v {
-            return v;
+    let entry = entry_at(tables.entries, i * ENTRY_SIZE);
+    let blas = blas_of_entry(tables.blases, tables.entries, i);
+    let mut at = index.first(entry.blas);
+    for j in 0..entry.geometry_count as usize {
+        let declared = index.get(at);
+        let geometry = geometry_of(tables.version, tables.geometries, g + j);
+        // Tried as `map_err(..)?`: the exit of the `?` stayed open, since what the closure returns does not compute there.
+        if let Err(error) = check_geometry(tables.buffers, entry.kind, blas, declared, geometry) {
+            return Err(BuildRefusal {
+                error,
+                e0: i,
+                e1: j,
+            });
         }
-        g += count;
-        i += 1;
+        at = index.after(at);
     }
-    Verdict::Passed
+    Ok(())
 }
 
 // Entries in turn, with section 3 indexed once.
-pub fn judge_entries(
-    version: Version,
-    buffers: &[u8],
-    blases: &[u8],
-    declared: &[u8],
-    entries: &[u8],
-    geometries: &[u8],
-) -> Verdict
-    requires { EntriesInside (for_entries version buffers.now blases.now declared.now entries.now geometries.now)
-        × Indexable declared.now }
-    ensures { verdict_of result
-        ≡ judge_entries
-        (for_entries version buffers.now blases.now declared.now entries.now
-        geometries.now) }
+#[tactic(auto, using(crate::proofs::Within::drawing), unfolding(ray_tracing::specs::Plan::judge_entries))]
+pub fn judge_entries(tables: &BuildTables<'_>) -> Result<(), BuildRefusal>
+    requires { EntriesInside (lent_tables tables.now) × Indexable tables.now.declared.now }
+    ensures { verdict_of result ≡ judge_entries (lent_tables tables.now) }
 {
-    let index = index_declared(declared);
-    let head = index.head;
-    let next = index.next;
-    judge_each(
-        version, buffers, blases, declared, entries, geometries, &head, &next,
-    )
+    let index = DeclaredIndex::new(tables.declared);
+    let mut g = 0;
+    for i in 0..tables.entries.len() / ENTRY_SIZE {
+        judge_entry(tables, &index, i, g)?;
+        g += geometry_count(tables.entries, i);
+    }
+    Ok(())
 }

@@ -116,7 +116,7 @@ module _ (x : Tables) (o : Outputs) where
   answer-recorded n h = build_answered ∙ rw h
 
 module _ (x : Tables) where
-  records_passed : judge_to_packages x ≡ passed → Passed x
+  pub records_passed : judge_to_packages x ≡ passed → Passed x
   unfolding judge_to_packages
   records_passed h =
       let a = or-passed (judge_tables x) _ h in

@@ -17,10 +17,8 @@ fn write_entry_blases(entries: &[u8], out: &mut [u16])
     requires { entries_in entries.now ≤ length out.old }
     ensures { out.new ≡ sets out.old 0 (blas_list entries.now) }
 {
-    let mut i = 0;
-    while i < entries.len() / ENTRY_SIZE {
+    for i in 0..entries.len() / ENTRY_SIZE {
         out[i] = entry_at(entries, i * ENTRY_SIZE).blas.0;
-        i += 1;
     }
 }
 
@@ -44,10 +42,8 @@ fn write_dependencies(slots: &[u8], first: usize, count: usize, out: &mut [u16],
     ensures out_after { out.new ≡ sets out.old at (dependencies_from slots.now first count) }
 {
     let mut end = at;
-    let mut s = first;
-    while s < first + count {
+    for s in first..first + count {
         end = put_dependency(slots, s, out, end);
-        s += 1;
     }
     end
 }
@@ -72,6 +68,7 @@ fn put_package(
 {
     let count = slot_count(packages, p);
     out[at] = package_at(packages, p * PACKAGE_SIZE).tlas.0;
+    // Proved to fit: a `try_from` would be a refusal that no build has.
     out[at + 1] = present_of(slots, s, count) as u16;
     write_dependencies(slots, s, count, out, at + 2)
 }
@@ -83,11 +80,9 @@ fn write_packages(packages: &[u8], slots: &[u8], out: &mut [u16], at: usize)
 {
     let mut end = at;
     let mut s: usize = 0;
-    let mut p: usize = 0;
-    while p < packages.len() / PACKAGE_SIZE {
+    for p in 0..packages.len() / PACKAGE_SIZE {
         end = put_package(packages, slots, p, s, out, end);
         s += slot_count(packages, p);
-        p += 1;
     }
 }
 

@@ -89,7 +89,7 @@ module _ (x : Tables) (e : judge_entries x ≡ passed) where
 
   -- the plan
   pub plan_is :
-      plan_of x ≡ planned x.version x.alignment x.blases x.tlases x.entries x.geometries x.packages x.slots
+      plan_of x ≡ planned x
   unfolding plan_of
   plan_is =
       λ p. record {
@@ -169,7 +169,7 @@ module _ (x : Tables) (i : Inside x) (e : judge_entries x ≡ passed) (bytes : (
   pub plannable :
       judge_packages x ≡ passed
       → judge_scratch x ≡ passed
-      → Plannable x.version x.alignment x.blases x.tlases x.entries x.geometries x.packages x.slots
+      → Plannable x
   plannable p s =
       record {
         aligned = i.aligned;

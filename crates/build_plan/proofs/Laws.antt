@@ -7,29 +7,30 @@ use native.Mathlib.Numerals.{add-one}
 use lib.ListN.{set}
 use lib.Seq.{sets}
 use borrow.Author.Tests.{eq-eqb, ne_eqb}
+use Rattle.std.specs.Prelude.{Some}
 use Rattle.ray_tracing.specs.declared.Blas.{Blas}
-use Rattle.scratch.specs.declared.Rounding.TheVariants as rounding
 use Rattle.scratch.specs.Scratch.{reported, add_rounded}
-use Rattle.scratch.proofs.Laws.{told-past}
+use Rattle.scratch.proofs.Laws.{up_to}
 use Rattle.ray_tracing.specs.Plan.{Tables, entry_of, slot_count, blas_of_entry, total_from, staging_from, compactable_from}
-use Rattle.ray_tracing.proofs.Stretches.{total-step, total_upto}
+use Rattle.ray_tracing.proofs.Stretches.{total-none, total-step, total_upto}
 use Rattle.ray_tracing.specs.Instances.{present_of}
-use Rattle.build_ranges.proofs.Appending.{Next}
+use Rattle.ray_tracing.proofs.Inside.{slots-none}
+use Rattle.build_ranges.proofs.Appending.{Next, starts, room, turn, done, counted}
 use Rattle.build_plan.specs.Parts.{compactable_of}
-use Rattle.ray_tracing.proofs.Plan.{left_more, left-none}
+use Rattle.ray_tracing.proofs.Plan.{left_more, left-none, offsets_length, offset_step, offset_done, staging_length}
 
 -- ---- offsets: no total passes 2^64 - 1
 
-pub not_passed :
+pub sum_reported :
     (f : ℕ → ℕ) (a n i total : ℕ)
     → total ≡ total_from f a 0 0 i
     → i < n
     → total_from f a 0 0 n < 2 ^ 64 - 1
-    → rounding.Passed ≡ reported (add_rounded total (f i) a)
-    → ⊥
-not_passed f a n i total t h b e =
-    let over = told-past (2 ^ 64 - 1) (add_rounded total (f i) a) e in
-    omega (arith, over, total-step f a i t, total_upto f a (i + 1) n (omega arith), b)
+    → reported (add_rounded total (f i) a) ≡ Some (add_rounded total (f i) a)
+sum_reported f a n i total t h b =
+    sym (up_to (2 ^ 64 - 1) _ (omega (arith, total-step f a i t, total_upto f a (i + 1) n (omega arith), b)))
+
+pub ruleset offsets = (sum_reported, total-none, total-step, offsets_length, offset_step, offset_done)
 
 -- ---- staging ranges
 
@@ -68,3 +69,8 @@ module _ (x : Tables) where
 
 pub pair_stored : (out : List ℕ) (at a b : ℕ) → set (set out at a) (at + 1) b ≡ sets out at (a ∷ b ∷ [])
 pair_stored out at a b = rw add-one
+
+-- what closes the goals of the loops
+pub ruleset staging = (starts, done, slots-none, staging_length, staging_none)
+
+pub ruleset listing = (room, starts, turn, done, counted, compactable_more, compactable-none)

@@ -1,34 +1,34 @@
 -- What a recorded build writes, from the sections that it looks at. Assumes nothing.
-use Rattle.std.specs.Prelude.{ℕ, ◌≤◌, List, length}
-use Rattle.ray_tracing.specs.declared.Version.{Version}
-use Rattle.ray_tracing.specs.Plan.{Outputs}
+use Rattle.std.specs.Prelude.{◌≤◌, length}
+use Rattle.ray_tracing.specs.declared.RunningTotal.TheVariants as running-total
+use Rattle.ray_tracing.specs.Plan.{Tables, Outputs}
 use Rattle.ray_tracing.specs.Parts.{PackagesNamed, EntriesNamed}
 use Rattle.build_ranges.specs.Ranges.{ranges_in, DrawnFit}
 use Rattle.build_lists.specs.Lists.{Drawn, lists_in}
-use Rattle.build_plan.specs.Parts.{blas_offsets_of, BlasBelow, tlas_offsets_of, TlasBelow, staging_in, instances_in, compactable_in, AllWritable}
+use Rattle.build_plan.specs.Parts.{TotalBelow, structure_offsets, staging_in, instances_in, compactable_in, AllWritable}
 
-abbrev pub planned : Version → ℕ → List ℕ → List ℕ → List ℕ → List ℕ → List ℕ → List ℕ → Outputs
-planned v alignment blases tlases entries geometries packages slots =
+abbrev pub planned : Tables → Outputs
+planned x =
     record {
-      blas_offsets = blas_offsets_of alignment blases entries;
-      tlas_offsets = tlas_offsets_of alignment tlases packages;
-      staging_ranges = staging_in packages slots;
-      instances = instances_in blases slots;
-      init_ranges = ranges_in v entries geometries;
-      compactable = compactable_in blases entries;
-      lists = lists_in entries packages slots;
+      blas_offsets = structure_offsets running-total.Entries x;
+      tlas_offsets = structure_offsets running-total.Packages x;
+      staging_ranges = staging_in x.packages x.slots;
+      instances = instances_in x.blases x.slots;
+      init_ranges = ranges_in x.version x.entries x.geometries;
+      compactable = compactable_in x.blases x.entries;
+      lists = lists_in x.entries x.packages x.slots;
     }
 
 -- what judging showed of them
-pub record Plannable (v : Version) (alignment : ℕ) (blases tlases entries geometries packages slots : List ℕ) : Type 0 where
-  pub aligned : 1 ≤ alignment
-  pub entry-blases : EntriesNamed blases entries
-  pub blas-below : BlasBelow alignment blases entries
-  pub package_tlases : PackagesNamed tlases packages
-  pub tlas-below : TlasBelow alignment tlases packages
-  pub slots-drawn : Drawn packages slots
-  pub writable : AllWritable blases slots
-  pub geometries-drawn : DrawnFit v entries geometries
+pub record Plannable (x : Tables) : Type 0 where
+  pub aligned : 1 ≤ x.alignment
+  pub entry-blases : EntriesNamed x.blases x.entries
+  pub blas-below : TotalBelow running-total.Entries x
+  pub package_tlases : PackagesNamed x.tlases x.packages
+  pub tlas-below : TotalBelow running-total.Packages x
+  pub slots-drawn : Drawn x.packages x.slots
+  pub writable : AllWritable x.blases x.slots
+  pub geometries-drawn : DrawnFit x.version x.entries x.geometries
 
 -- no output is too short
 pub record PlanRoom (p o : Outputs) : Type 0 where

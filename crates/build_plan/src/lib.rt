@@ -2,66 +2,66 @@
 // ranges are written by `build_ranges`, its recorded action by `build_lists`.
 #![tactic(auto)]
 
-ghost use Rattle.std.specs.Prelude.{◌≡◌, [], ◌+◌, ◌*◌, ◌≤◌, ◌<◌, length};
+ghost use Rattle.std.specs.Prelude.{◌≡◌, ◌+◌, ◌≤◌, ◌<◌, length};
 ghost use Rattle.std.proofs.lemmas.List.Edits.{sets};
-ghost use Rattle.ray_tracing.specs.Plan.{counts_of, written, outputs_of};
-ghost use Rattle.ray_tracing.specs.Parts.{entries_in, of_entries, packages_in, PackagesNamed, EntriesNamed};
+ghost use Rattle.ray_tracing.specs.Plan.{SameOutputs, counts_of, lent_outputs, lent_tables, written};
+ghost use Rattle.ray_tracing.specs.Parts.{entries_in, of_entries, EntriesNamed};
 ghost use Rattle.build_ranges.specs.Ranges.{DrawnFit};
 ghost use Rattle.build_lists.specs.Lists.{Drawn};
-ghost use Rattle.build_plan.specs.Parts.{blas_offsets_of, BlasBelow, tlas_offsets_of, TlasBelow, staging_in, instances_in, AllWritable};
-ghost use Rattle.build_plan.specs.Parts.{compactable_of, compactable_in};
+ghost use Rattle.build_plan.specs.Parts.{structures_in, structure_sizes, StructuresNamed, TotalBelow, structure_offsets, staging_in};
+ghost use Rattle.build_plan.specs.Parts.{instances_in, AllWritable, compactable_of, compactable_in};
 ghost use Rattle.build_plan.specs.Planned.{planned, Plannable, PlanRoom};
 
 use build_lists::write_lists;
 use build_ranges::{count_ranges, write_init_ranges};
 use instance::{present_of, put_slots};
-use ray_tracing::{ENTRY_SIZE, INSTANCE_SIZE, PACKAGE_SIZE, SLOT_SIZE, Version, Written};
+use ray_tracing::{
+    BuildOutputs, BuildTables, ENTRY_SIZE, INSTANCE_SIZE, PACKAGE_SIZE, RunningTotal, SLOT_SIZE,
+    Written,
+};
 use records::{blas_of_entry, entry_at, slot_count, tlas_of_package};
-use scratch::{Rounding, add_rounded};
+use scratch::add_rounded;
 
-// One offset per entry: the total before it. No sum passes 2^64 - 1: the scratch was judged.
-fn write_blas_offsets(alignment: u32, blases: &[u8], entries: &[u8], out: &mut [u64])
-    requires le_alignment { (1 ≤ alignment) × (entries_in entries.now ≤ length out.old) × EntriesNamed blases.now entries.now }
-    requires blas_below { BlasBelow alignment blases.now entries.now }
-    ensures { out.new ≡ sets out.old 0 (blas_offsets_of alignment blases.now entries.now) }
+// How many entries there are, or packages.
+fn structures(of: RunningTotal, tables: &BuildTables<'_>) -> usize
+    ensures { result ≡ structures_in of (lent_tables tables.now) }
 {
-    let mut blas_total: u64 = 0;
-    let mut i = 0;
-    while i < entries.len() / ENTRY_SIZE {
-        out[i] = blas_total;
-        let blas = blas_of_entry(blases, entries, i);
-        let Rounding::Rounded(sum) = add_rounded(
-            blas_total,
-            blas.build_scratch_size,
-            alignment as u64,
-        ) else {
-            return;
-        };
-        blas_total = sum;
-        i += 1;
+    match of {
+        RunningTotal::Entries => tables.entries.len() / ENTRY_SIZE,
+        RunningTotal::Packages => tables.packages.len() / PACKAGE_SIZE,
     }
 }
 
-// One offset per package, from 0 again: Blases and Tlases share the scratch.
-fn write_tlas_offsets(alignment: u32, tlases: &[u8], packages: &[u8], out: &mut [u64])
-    requires le_alignment { (1 ≤ alignment) × (packages_in packages.now ≤ length out.old) × PackagesNamed tlases.now packages.now }
-    requires tlas_below { TlasBelow alignment tlases.now packages.now }
-    ensures { out.new ≡ sets out.old 0 (tlas_offsets_of alignment tlases.now packages.now) }
+// The scratch of an entry's Blas, or of a package's Tlas.
+fn build_scratch_size(of: RunningTotal, tables: &BuildTables<'_>, i: usize) -> u64
+    requires { (i < structures_in of (lent_tables tables.now)) × StructuresNamed of (lent_tables tables.now) }
+    ensures { result ≡ structure_sizes of (lent_tables tables.now) i }
 {
-    let mut tlas_total: u64 = 0;
-    let mut p = 0;
-    while p < packages.len() / PACKAGE_SIZE {
-        out[p] = tlas_total;
-        let tlas = tlas_of_package(tlases, packages, p);
-        let Rounding::Rounded(sum) = add_rounded(
-            tlas_total,
-            tlas.build_scratch_size,
-            alignment as u64,
-        ) else {
-            return;
-        };
-        tlas_total = sum;
-        p += 1;
+    match of {
+        RunningTotal::Entries => {
+            blas_of_entry(tables.blases, tables.entries, i).build_scratch_size
+        }
+        RunningTotal::Packages => {
+            tlas_of_package(tables.tlases, tables.packages, i).build_scratch_size
+        }
+    }
+}
+
+// One offset per entry, or one per package: the total before it. Blases and Tlases share the scratch, so that both totals run from
+// 0. No sum passes 2^64 - 1: the scratch was judged.
+#[tactic(auto, using(crate::proofs::Laws::offsets))]
+fn write_offsets(of: RunningTotal, tables: &BuildTables<'_>, out: &mut [u64])
+    requires alignment { 1 ≤ tables.now.alignment }
+    requires room { length (structure_offsets of (lent_tables tables.now)) ≤ length out.old }
+    requires named { StructuresNamed of (lent_tables tables.now) }
+    requires below { TotalBelow of (lent_tables tables.now) }
+    ensures { out.new ≡ sets out.old 0 (structure_offsets of (lent_tables tables.now)) }
+{
+    let alignment = u64::from(tables.alignment);
+    let mut total = 0;
+    for i in 0..structures(of, tables) {
+        out[i] = total;
+        total = add_rounded(total, build_scratch_size(of, tables, i), alignment).unwrap();
     }
 }
 
@@ -80,28 +80,27 @@ fn put_compactable(blases: &[u8], entries: &[u8], i: usize, out: &mut [u16], at:
     at
 }
 
+#[tactic(auto, using(crate::proofs::Laws::listing))]
 fn write_compactable(blases: &[u8], entries: &[u8], out: &mut [u16])
     requires entries_named { EntriesNamed blases.now entries.now }
     requires entries_in_bounds { length (compactable_in blases.now entries.now) ≤ length out.old }
     ensures { out.new ≡ sets out.old 0 (compactable_in blases.now entries.now) }
 {
     let mut at = 0;
-    let mut i = 0;
-    while i < entries.len() / ENTRY_SIZE {
+    for i in 0..entries.len() / ENTRY_SIZE {
         at = put_compactable(blases, entries, i, out, at);
-        i += 1;
     }
 }
 
 // Start and end of each package's bytes: 64 for each present slot, without gap.
+#[tactic(auto, using(crate::proofs::Laws::staging))]
 fn write_staging_ranges(packages: &[u8], slots: &[u8], out: &mut [u64])
-    requires { Drawn packages.now slots.now × (2 * packages_in packages.now ≤ length out.old) }
+    requires { Drawn packages.now slots.now × (length (staging_in packages.now slots.now) ≤ length out.old) }
     ensures { out.new ≡ sets out.old 0 (staging_in packages.now slots.now) }
 {
-    let mut start: u64 = 0;
-    let mut s: usize = 0;
-    let mut p: usize = 0;
-    while p < packages.len() / PACKAGE_SIZE {
+    let mut start = 0;
+    let mut s = 0;
+    for p in 0..packages.len() / PACKAGE_SIZE {
         let count = slot_count(packages, p);
         let bytes = INSTANCE_SIZE * present_of(slots, s, count);
         let end = start + bytes as u64;
@@ -109,7 +108,6 @@ fn write_staging_ranges(packages: &[u8], slots: &[u8], out: &mut [u64])
         out[2 * p + 1] = end;
         start = end;
         s += count;
-        p += 1;
     }
 }
 
@@ -128,46 +126,30 @@ fn compactable_cells(blases: &[u8], entries: &[u8], i: usize) -> usize
     if blas.flags / 4 % 2 == 1 { 1 } else { 0 }
 }
 
+#[tactic(auto, using(crate::proofs::Laws::listing))]
 fn count_compactable(blases: &[u8], entries: &[u8]) -> usize
     requires { EntriesNamed blases.now entries.now }
     ensures { result ≡ length (compactable_in blases.now entries.now) }
 {
-    let mut n: usize = 0;
-    let mut i: usize = 0;
-    while i < entries.len() / ENTRY_SIZE {
-        n = n + compactable_cells(blases, entries, i);
-        i += 1;
+    let mut n = 0;
+    for i in 0..entries.len() / ENTRY_SIZE {
+        n += compactable_cells(blases, entries, i);
     }
     n
 }
 
 // How many elements of each output a recorded build writes: no alignment and no Tlas changes that.
-pub fn counts(
-    version: Version,
-    blases: &[u8],
-    entries: &[u8],
-    geometries: &[u8],
-    packages: &[u8],
-    slots: &[u8],
-) -> Written
-    requires { EntriesNamed blases.now entries.now × DrawnFit version entries.now geometries.now × Drawn packages.now slots.now }
-    ensures { result
-        ≡ counts_of
-        (planned
-        version
-        0
-        blases.now
-        []
-        entries.now
-        geometries.now
-        packages.now
-        slots.now) }
+pub fn counts(tables: &BuildTables<'_>) -> Written
+    requires { EntriesNamed tables.now.blases.now tables.now.entries.now
+        × DrawnFit tables.now.version tables.now.entries.now tables.now.geometries.now
+        × Drawn tables.now.packages.now tables.now.slots.now }
+    ensures { result ≡ counts_of (planned (lent_tables tables.now)) }
 {
-    let blas_offsets = entries.len() / ENTRY_SIZE;
-    let tlas_offsets = packages.len() / PACKAGE_SIZE;
-    let present = present_of(slots, 0, slots.len() / SLOT_SIZE);
-    let init_ranges = count_ranges(version, entries, geometries);
-    let compactable = count_compactable(blases, entries);
+    let blas_offsets = tables.entries.len() / ENTRY_SIZE;
+    let tlas_offsets = tables.packages.len() / PACKAGE_SIZE;
+    let present = present_of(tables.slots, 0, tables.slots.len() / SLOT_SIZE);
+    let init_ranges = count_ranges(tables.version, tables.entries, tables.geometries);
+    let compactable = count_compactable(tables.blases, tables.entries);
     Written {
         blas_offsets,
         tlas_offsets,
@@ -180,66 +162,22 @@ pub fn counts(
 }
 
 // All seven outputs.
-pub fn write_plan(
-    version: Version,
-    alignment: u32,
-    blases: &[u8],
-    tlases: &[u8],
-    entries: &[u8],
-    geometries: &[u8],
-    packages: &[u8],
-    slots: &[u8],
-    blas_offsets: &mut [u64],
-    tlas_offsets: &mut [u64],
-    staging_ranges: &mut [u64],
-    instances: &mut [u8],
-    init_ranges: &mut [u64],
-    compactable: &mut [u16],
-    lists: &mut [u16],
-)
-    requires plannable { Plannable version alignment blases.now tlases.now entries.now geometries.now packages.now slots.now }
-    requires plan_room { PlanRoom
-        (planned version alignment blases.now tlases.now entries.now geometries.now packages.now slots.now)
-        (outputs_of
-        blas_offsets.old
-        tlas_offsets.old
-        staging_ranges.old
-        instances.old
-        init_ranges.old
-        compactable.old
-        lists.old) }
-    ensures { outputs_of
-        blas_offsets.new
-        tlas_offsets.new
-        staging_ranges.new
-        instances.new
-        init_ranges.new
-        compactable.new
-        lists.new
-        ≡ written
-        (planned
-        version
-        alignment
-        blases.now
-        tlases.now
-        entries.now
-        geometries.now
-        packages.now
-        slots.now)
-        (outputs_of
-        blas_offsets.old
-        tlas_offsets.old
-        staging_ranges.old
-        instances.old
-        init_ranges.old
-        compactable.old
-        lists.old) }
+pub fn write_plan(tables: &BuildTables<'_>, outputs: &mut BuildOutputs<'_>)
+    requires plannable { Plannable (lent_tables tables.now) }
+    requires plan_room { PlanRoom (planned (lent_tables tables.now)) (lent_outputs outputs.old) }
+    ensures plan { lent_outputs outputs.new ≡ written (planned (lent_tables tables.now)) (lent_outputs outputs.old) }
+    ensures names { SameOutputs outputs.old outputs.new }
 {
-    write_blas_offsets(alignment, blases, entries, blas_offsets);
-    write_tlas_offsets(alignment, tlases, packages, tlas_offsets);
-    write_staging_ranges(packages, slots, staging_ranges);
-    write_instances(blases, slots, instances);
-    write_init_ranges(version, entries, geometries, init_ranges);
-    write_compactable(blases, entries, compactable);
-    write_lists(entries, packages, slots, lists);
+    write_offsets(RunningTotal::Entries, tables, outputs.blas_offsets);
+    write_offsets(RunningTotal::Packages, tables, outputs.tlas_offsets);
+    write_staging_ranges(tables.packages, tables.slots, outputs.staging_ranges);
+    write_instances(tables.blases, tables.slots, outputs.instances);
+    write_init_ranges(
+        tables.version,
+        tables.entries,
+        tables.geometries,
+        outputs.init_ranges,
+    );
+    write_compactable(tables.blases, tables.entries, outputs.compactable);
+    write_lists(tables.entries, tables.packages, tables.slots, outputs.lists);
 }

@@ -1,13 +1,13 @@
 // The initialisation ranges that a build's geometries ask for: how many cells they take, and the cells.
 #![tactic(auto)]
 
-ghost use Rattle.std.specs.Prelude.{◌≡◌, cond, eqb, ◌+◌, ◌*◌, ◌/◌, ◌≤◌, ◌<◌, length};
+ghost use Rattle.std.specs.Prelude.{◌≡◌, cond, eqb, ◌+◌, ◌*◌, ◌≤◌, length};
 ghost use Rattle.std.proofs.lemmas.List.Edits.{sets};
 ghost use Rattle.ray_tracing.specs.Code.{asked_of, range_of};
 ghost use Rattle.build_ranges.specs.Ranges.{data_range, index_range, transform_range, geometry_ranges, entry_ranges, ranges_in};
 ghost use Rattle.build_ranges.specs.Ranges.{RangesFit, AllFit, geometries_in, DrawnFit};
 
-use ray_tracing::{Asked, BlasGeometry, BufferId, ENTRY_SIZE, NO_BUFFER, Range, Version};
+use ray_tracing::{BlasGeometry, BufferId, ENTRY_SIZE, NO_BUFFER, Range, Version};
 use records::{TRANSFORM_SIZE, entry_at, geometry_of, index_width};
 
 // The cells of a range: buffer, start, end.
@@ -19,7 +19,7 @@ fn data_range(kind: u8, g: BlasGeometry) -> Range
     ensures { range_of result ≡ data_range kind g }
 {
     let buffer = g.buffer;
-    let region = g.count as u64 * g.stride;
+    let region = u64::from(g.count) * g.stride;
     if kind == 0 {
         let start = g.first * g.stride;
         let end = start + region;
@@ -30,36 +30,30 @@ fn data_range(kind: u8, g: BlasGeometry) -> Range
     Range { buffer, start, end }
 }
 
-fn index_range(kind: u8, g: BlasGeometry) -> Asked
+fn index_range(kind: u8, g: BlasGeometry) -> Option<Range>
     ensures { asked_of result ≡ index_range kind g }
 {
-    if kind != 0 {
-        return Asked::Nothing;
-    }
     let buffer = g.index_buffer;
-    if buffer.0 == NO_BUFFER {
-        return Asked::Nothing;
+    if kind != 0 || buffer.0 == NO_BUFFER {
+        return None;
     }
     let width = index_width(g.index_format);
-    let start = g.first_index as u64 * width;
-    let end = start + g.index_count as u64 * width;
-    Asked::Of(Range { buffer, start, end })
+    let start = u64::from(g.first_index) * width;
+    let end = start + u64::from(g.index_count) * width;
+    Some(Range { buffer, start, end })
 }
 
-fn transform_range(kind: u8, g: BlasGeometry) -> Asked
+fn transform_range(kind: u8, g: BlasGeometry) -> Option<Range>
     requires { RangesFit kind g }
     ensures { asked_of result ≡ transform_range kind g }
 {
-    if kind != 0 {
-        return Asked::Nothing;
-    }
     let buffer = g.transform_buffer;
-    if buffer.0 == NO_BUFFER {
-        return Asked::Nothing;
+    if kind != 0 || buffer.0 == NO_BUFFER {
+        return None;
     }
     let start = g.transform_buffer_offset;
     let end = start + TRANSFORM_SIZE;
-    Asked::Of(Range { buffer, start, end })
+    Some(Range { buffer, start, end })
 }
 
 // Buffer, start, end.
@@ -67,19 +61,19 @@ fn put_range(out: &mut [u64], at: usize, range: Range)
     requires { at + 3 ≤ length out.old }
     ensures { out.new ≡ sets out.old at (range_of range) }
 {
-    out[at] = range.buffer.0 as u64;
+    out[at] = u64::from(range.buffer.0);
     out[at + 1] = range.start;
     out[at + 2] = range.end;
 }
 
-fn put_asked(out: &mut [u64], at: usize, asked: Asked) -> usize
+fn put_asked(out: &mut [u64], at: usize, asked: Option<Range>) -> usize
     requires { at + length (asked_of asked) ≤ length out.old }
     ensures value { result ≡ at + length (asked_of asked) }
     ensures out_after { out.new ≡ sets out.old at (asked_of asked) }
 {
     match asked {
-        Asked::Nothing => at,
-        Asked::Of(range) => {
+        None => at,
+        Some(range) => {
             put_range(out, at, range);
             at + RANGE_CELLS
         }
@@ -115,11 +109,9 @@ fn write_entry_ranges(
     ensures out_after { out.new ≡ sets out.old at (entry_ranges version geometries.now kind first count) }
 {
     let mut end = at;
-    let mut g = first;
-    while g < first + count {
+    for g in first..first + count {
         let geometry = geometry_of(version, geometries, g);
         end = put_geometry(kind, geometry, out, end);
-        g += 1;
     }
     end
 }
@@ -131,13 +123,11 @@ pub fn write_init_ranges(version: Version, entries: &[u8], geometries: &[u8], ou
 {
     let mut at: usize = 0;
     let mut g: usize = 0;
-    let mut i: usize = 0;
-    while i < entries.len() / ENTRY_SIZE {
+    for i in 0..entries.len() / ENTRY_SIZE {
         let entry = entry_at(entries, i * ENTRY_SIZE);
-        let count = entry.geometry_count as usize;
+        let count = usize::from(entry.geometry_count);
         at = write_entry_ranges(version, geometries, entry.kind, g, count, out, at);
         g += count;
-        i += 1;
     }
 }
 
@@ -172,11 +162,9 @@ fn count_entry_ranges(
     ensures { (result ≡ length (entry_ranges version geometries.now kind first count)) × (result ≤ 9 * count) }
 {
     let mut n: usize = 0;
-    let mut g = first;
-    while g < first + count {
+    for g in first..first + count {
         let geometry = geometry_of(version, geometries, g);
-        n = n + geometry_cells(kind, geometry);
-        g += 1;
+        n += geometry_cells(kind, geometry);
     }
     n
 }
@@ -187,13 +175,11 @@ pub fn count_ranges(version: Version, entries: &[u8], geometries: &[u8]) -> usiz
 {
     let mut n: usize = 0;
     let mut g: usize = 0;
-    let mut i: usize = 0;
-    while i < entries.len() / ENTRY_SIZE {
+    for i in 0..entries.len() / ENTRY_SIZE {
         let entry = entry_at(entries, i * ENTRY_SIZE);
-        let count = entry.geometry_count as usize;
-        n = n + count_entry_ranges(version, geometries, entry.kind, g, count);
+        let count = usize::from(entry.geometry_count);
+        n += count_entry_ranges(version, geometries, entry.kind, g, count);
         g += count;
-        i += 1;
     }
     n
 }

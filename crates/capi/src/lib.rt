@@ -30,8 +30,9 @@ use instance_bytes::instance_from;
 use instance_many::append_instances;
 use instance_read::read_instances;
 use ray_tracing::{
-    AppendAnswer, BuildAnswer, CommandIndices, InstancesAnswer, LENT_SIZE, OpenAnswer,
-    ReportAnswer, SheetAnswer, TlasId, Validated, Version, WriteAnswer,
+    AppendAnswer, BuildAnswer, BuildOutputs, BuildTables, CommandIndices, InstancesAnswer,
+    LENT_SIZE, OpenAnswer, ReportAnswer, SheetAnswer, SubmissionBuffers, TlasId, Validated,
+    Version, WriteAnswer,
 };
 use report::report;
 use report_words::{Refusal, words};
@@ -104,23 +105,27 @@ pub extern "C" fn zakvind_build(
         instances.new init_ranges.new compactable.new lists.new) }
 {
     build_answer(build_acceleration_structures(
-        Version::One,
-        alignment,
-        buffers,
-        blases,
-        declared,
-        tlases,
-        entries,
-        geometries,
-        packages,
-        slots,
-        blas_offsets,
-        tlas_offsets,
-        staging_ranges,
-        instances,
-        init_ranges,
-        compactable,
-        lists,
+        &BuildTables {
+            version: Version::One,
+            alignment,
+            buffers,
+            blases,
+            declared,
+            tlases,
+            entries,
+            geometries,
+            packages,
+            slots,
+        },
+        &mut BuildOutputs {
+            blas_offsets,
+            tlas_offsets,
+            staging_ranges,
+            instances,
+            init_ranges,
+            compactable,
+            lists,
+        },
     ))
 }
 
@@ -154,23 +159,27 @@ pub extern "C" fn zakvind_build_wide(
         instances.new init_ranges.new compactable.new lists.new) }
 {
     build_answer(build_acceleration_structures(
-        Version::Two,
-        alignment,
-        buffers,
-        blases,
-        declared,
-        tlases,
-        entries,
-        geometries,
-        packages,
-        slots,
-        blas_offsets,
-        tlas_offsets,
-        staging_ranges,
-        instances,
-        init_ranges,
-        compactable,
-        lists,
+        &BuildTables {
+            version: Version::Two,
+            alignment,
+            buffers,
+            blases,
+            declared,
+            tlases,
+            entries,
+            geometries,
+            packages,
+            slots,
+        },
+        &mut BuildOutputs {
+            blas_offsets,
+            tlas_offsets,
+            staging_ranges,
+            instances,
+            init_ranges,
+            compactable,
+            lists,
+        },
     ))
 }
 
@@ -194,10 +203,12 @@ pub extern "C" fn zakvind_submit(
 {
     validate_acceleration_structure_actions(
         indices,
-        blases,
-        tlases,
-        dependency_counts,
-        dependencies,
+        &mut SubmissionBuffers {
+            blases,
+            tlases,
+            dependency_counts,
+            dependencies,
+        },
         actions,
         lists,
     )

@@ -1,7 +1,9 @@
 // What the programs that run cases share: the next bytes and cells of standard input, hashes, and lines of numbers.
 #![tactic(auto)]
 
-ghost use Rattle.std.specs.Prelude.{◌≡◌, ◌*◌, ◌≤◌, ◌<◌, length};
+ghost use Rattle.std.specs.Prelude.{◌≡◌, ℕ, ◌+◌, ◌*◌, ◌≤◌, ◌<◌, length, map};
+ghost use Rattle.std.proofs.Common.{rules};
+ghost use Rattle.wire.specs.Wire.{le_at};
 ghost use Rattle.cases.specs.First.{at_most, first_few, IsPrefixLen};
 ghost use Rattle.cases.specs.Hash.{hash, hash_step};
 
@@ -18,6 +20,7 @@ pub fn fill(rt: &impl Input, bytes: &mut [u8], n: usize) -> usize
     }
     let mut input = rt.reader();
     let mut done = 0;
+    // A `while`: how many bytes a read gives is not known before.
     while done < n {
         match input.read(&mut bytes[done..n]) {
             Ok(0) | Err(_) => break,
@@ -27,7 +30,7 @@ pub fn fill(rt: &impl Input, bytes: &mut [u8], n: usize) -> usize
     done
 }
 
-// What `next_u32` answers at the input's end: no u32.
+// What `next_u32` answers at the input's end: no u32, but a length that no buffer has, so that filling reads nothing.
 pub const END: usize = 4294967296;
 
 pub fn next_u32(rt: &impl Input) -> usize
@@ -47,49 +50,119 @@ pub fn next_u64(rt: &impl Input) -> u64 {
     wire::u64_at(&bytes, 0)
 }
 
-fn take_u16(cells: &mut [u16], bytes: &[u8], n: usize)
-    requires { (n ≤ length cells.old) × (2 * n ≤ length bytes.now) }
+// What lent arrays hold: numbers of one to eight little-endian bytes.
+pub trait Cell: Copy {
+    // The bytes of one.
+    ghost SIZE: { ℕ };
+
+    const SIZE: usize;
+
+    ghost value: { Self → ℕ };
+
+    fn read(bytes: &[u8], at: usize) -> Self
+        requires { at + SIZE ≤ length bytes.now }
+        ensures { value result ≡ le_at SIZE bytes.now at };
+
+    fn value(self) -> u64
+        ensures { result ≡ value self };
+
+    ghost sized: { 0 < SIZE };
+}
+
+impl Cell for u8 {
+    ghost SIZE = { 1 };
+
+    const SIZE: usize = 1;
+
+    ghost value = { λ x. x };
+
+    fn read(bytes: &[u8], at: usize) -> u8 {
+        wire::u8_at(bytes, at)
+    }
+
+    fn value(self) -> u64 {
+        u64::from(self)
+    }
+
+    ghost sized = { Prim.search rules };
+}
+
+impl Cell for u16 {
+    ghost SIZE = { 2 };
+
+    const SIZE: usize = 2;
+
+    ghost value = { λ x. x };
+
+    fn read(bytes: &[u8], at: usize) -> u16 {
+        wire::u16_at(bytes, at)
+    }
+
+    fn value(self) -> u64 {
+        u64::from(self)
+    }
+
+    ghost sized = { Prim.search rules };
+}
+
+impl Cell for u32 {
+    ghost SIZE = { 4 };
+
+    const SIZE: usize = 4;
+
+    ghost value = { λ x. x };
+
+    fn read(bytes: &[u8], at: usize) -> u32 {
+        wire::u32_at(bytes, at)
+    }
+
+    fn value(self) -> u64 {
+        u64::from(self)
+    }
+
+    ghost sized = { Prim.search rules };
+}
+
+impl Cell for u64 {
+    ghost SIZE = { 8 };
+
+    const SIZE: usize = 8;
+
+    ghost value = { λ x. x };
+
+    fn read(bytes: &[u8], at: usize) -> u64 {
+        wire::u64_at(bytes, at)
+    }
+
+    fn value(self) -> u64 {
+        self
+    }
+
+    ghost sized = { Prim.search rules };
+}
+
+fn read_cells<T: Cell>(cells: &mut [T], bytes: &[u8], n: usize)
+    requires { (n ≤ length cells.old) × (n * T.SIZE ≤ length bytes.now) }
 {
-    let mut i = 0;
-    while i < n {
-        cells[i] = wire::u16_at(bytes, 2 * i);
-        i += 1;
+    for i in 0..n {
+        cells[i] = T::read(bytes, i * T::SIZE);
     }
 }
 
-fn take_u32(cells: &mut [u32], bytes: &[u8], n: usize)
-    requires { (n ≤ length cells.old) × (4 * n ≤ length bytes.now) }
-{
-    let mut i = 0;
-    while i < n {
-        cells[i] = wire::u32_at(bytes, 4 * i);
-        i += 1;
-    }
-}
+// As many bytes as are read at once.
+const READ_SIZE: usize = 65536;
 
-// The next n cells, as `fill`; at most 32,768.
-pub fn fill_u16(rt: &impl Input, cells: &mut [u16], n: usize) -> usize
+// The next n cells, as `fill`; at most as many as 65,536 bytes hold.
+pub fn fill_cells<T: Cell>(rt: &impl Input, cells: &mut [T], n: usize) -> usize
     ensures { IsPrefixLen result cells.new × (result ≤ n) }
 {
-    if cells.len() < n || 32768 < n {
+    let size = T::SIZE;
+    if cells.len() < n || READ_SIZE / size < n {
         return 0;
     }
-    let mut bytes = [0u8; 65536];
-    let got = fill(rt, &mut bytes, 2 * n) / 2;
-    take_u16(cells, &bytes, got);
-    got
-}
-
-// The next n cells, as `fill`; at most 16,384.
-pub fn fill_u32(rt: &impl Input, cells: &mut [u32], n: usize) -> usize
-    ensures { IsPrefixLen result cells.new × (result ≤ n) }
-{
-    if cells.len() < n || 16384 < n {
-        return 0;
-    }
-    let mut bytes = [0u8; 65536];
-    let got = fill(rt, &mut bytes, 4 * n) / 4;
-    take_u32(cells, &bytes, got);
+    let mut bytes = [0u8; READ_SIZE];
+    let got = fill(rt, &mut bytes, n * size) / size;
+    read_cells(cells, &bytes, got);
     got
 }
 
@@ -100,21 +173,7 @@ fn at_most(n: usize, most: usize) -> usize
 }
 
 // The first n, where there are so many; else none.
-pub fn first_u8(s: &mut [u8], n: usize) -> &mut [u8]
-    ensures { result.now ≡ first_few n s.old }
-{
-    let n = at_most(n, s.len());
-    &mut s[0..n]
-}
-
-pub fn first_u16(s: &mut [u16], n: usize) -> &mut [u16]
-    ensures { result.now ≡ first_few n s.old }
-{
-    let n = at_most(n, s.len());
-    &mut s[0..n]
-}
-
-pub fn first_u64(s: &mut [u64], n: usize) -> &mut [u64]
+pub fn first<T>(s: &mut [T], n: usize) -> &mut [T]
     ensures { result.now ≡ first_few n s.old }
 {
     let n = at_most(n, s.len());
@@ -128,73 +187,29 @@ fn hash_step(h: u64, v: u64) -> u64
     (h * 31 + v % 4294967291 + 7) % 4294967291
 }
 
-fn wide8(x: u8) -> u64
-    ensures { result ≡ x }
+pub fn hash<T: Cell>(s: &[T]) -> u64
+    ensures { result ≡ hash (map T.value s.now) }
 {
-    x as u64
-}
-
-fn wide16(x: u16) -> u64
-    ensures { result ≡ x }
-{
-    x as u64
-}
-
-pub fn hash_u8(s: &[u8]) -> u64
-    ensures { result ≡ hash s.now }
-{
-    let mut h: u64 = 0;
-    let mut i = 0;
-    while i < s.len() {
-        h = hash_step(h, wide8(s[i]));
-        i += 1;
-    }
-    h
-}
-
-pub fn hash_u16(s: &[u16]) -> u64
-    ensures { result ≡ hash s.now }
-{
-    let mut h: u64 = 0;
-    let mut i = 0;
-    while i < s.len() {
-        h = hash_step(h, wide16(s[i]));
-        i += 1;
-    }
-    h
-}
-
-pub fn hash_u64(s: &[u64]) -> u64
-    ensures { result ≡ hash s.now }
-{
-    let mut h: u64 = 0;
-    let mut i = 0;
-    while i < s.len() {
-        h = hash_step(h, s[i]);
-        i += 1;
+    let mut h = 0;
+    for x in s {
+        h = hash_step(h, x.value());
     }
     h
 }
 
 // Each number and a space: what is written, and whether it could be, no contract can say.
 pub fn print_words(rt: &impl Print, numbers: &[u64]) -> io::Result<()> {
-    let mut i = 0;
-    while i < numbers.len() {
-        let number = numbers[i];
+    for number in numbers {
         print!(rt; "{number} ")?;
-        i += 1;
     }
     Ok(())
 }
 
 // The last number and a line end, each other as in `print_words`: what is written no contract can say.
 pub fn print_line(rt: &impl Print, numbers: &[u64]) -> io::Result<()> {
-    let n = numbers.len();
-    if 0 < n {
-        let last = n - 1;
-        print_words(rt, &numbers[0..last])?;
-        let number = numbers[last];
-        print!(rt; "{number}")?;
+    if let Some((last, words)) = numbers.split_last() {
+        print_words(rt, words)?;
+        print!(rt; "{last}")?;
     }
     println!(rt;)
 }

@@ -1,16 +1,14 @@
-// Reads instances to append from standard input and writes a line for each case: of one call for all of them number, E, bytes in use and a hash
-// of all the room, filled with a pattern before; then of one call after another, up to the first that is refused, the last one's number, bytes in
-// use, how many calls there were, and a hash of a room of its own, filled alike. tests/make_append_cases.py says how a case is written, and
-// makes cases and answers.
+// Reads instances to append from standard input and writes a line for each case: of one call for all of them number, E, bytes in use
+// and a hash of all the room, filled with a pattern before; then of one call after another, up to the first that is refused, the last
+// one's number, bytes in use, how many calls there were, and a hash of a room of its own, filled alike. tests/make_append_cases.py
+// says how a case is written, and makes cases and answers.
 #![tactic(auto)]
-
-ghost use Rattle.std.specs.Prelude.{◌+◌, ◌≤◌, length};
 
 use capi_answers::{append_answer, append_many_answer};
 use instance::append_instance;
 use instance_bytes::instance_from;
 use instance_many::append_instances;
-use ray_tracing::{AppendAnswer, LENT_SIZE, TlasId};
+use ray_tracing::{LENT_SIZE, TlasId};
 use std::io;
 
 fn append_all(
@@ -24,25 +22,8 @@ fn append_all(
 ) -> io::Result<()> {
     let appended = append_instances(tlases, blases, tlas, items, instances, used);
     let a = append_many_answer(used, appended);
-    let words = [a.number, a.e0, a.e1, a.used, cases::hash_u8(instances)];
+    let words = [a.number, a.e0, a.e1, a.used, cases::hash(instances)];
     cases::print_words(rt, &words)
-}
-
-// A call for the item at a place.
-fn append_next(
-    tlases: &[u8],
-    blases: &[u8],
-    tlas: TlasId,
-    items: &[u8],
-    at: usize,
-    instances: &mut [u8],
-    used: usize,
-) -> AppendAnswer
-    requires { at + 55 ≤ length items.now }
-{
-    let instance = instance_from(items, at);
-    let appended = append_instance(tlases, blases, tlas, instance, instances, used);
-    append_answer(used, appended)
 }
 
 fn append_each(
@@ -55,21 +36,20 @@ fn append_each(
     used: usize,
 ) -> io::Result<()> {
     let mut in_use = used;
-    let mut number: u64 = 0;
-    let mut at: usize = 0;
-    while LENT_SIZE <= items.len() - at && number == 0 {
-        let a = append_next(tlases, blases, tlas, items, at, instances, in_use);
+    let mut number = 0;
+    let mut calls = 0;
+    for (i, item) in items.chunks_exact(LENT_SIZE).enumerate() {
+        let instance = instance_from(item, 0);
+        let appended = append_instance(tlases, blases, tlas, instance, instances, in_use);
+        let a = append_answer(in_use, appended);
         number = a.number;
         in_use = a.used as usize;
-        at += LENT_SIZE;
+        calls = i + 1;
+        if number != 0 {
+            break;
+        }
     }
-    let calls = at / LENT_SIZE;
-    let line = [
-        number,
-        in_use as u64,
-        calls as u64,
-        cases::hash_u8(instances),
-    ];
+    let line = [number, in_use as u64, calls as u64, cases::hash(instances)];
     cases::print_line(rt, &line)
 }
 
@@ -91,7 +71,7 @@ fn answer(
         blases,
         tlas,
         items,
-        cases::first_u8(&mut first, room),
+        cases::first(&mut first, room),
         used,
     )?;
     append_each(
@@ -100,7 +80,7 @@ fn answer(
         blases,
         tlas,
         items,
-        cases::first_u8(&mut second, room),
+        cases::first(&mut second, room),
         used,
     )
 }
@@ -137,12 +117,10 @@ fn next_case(rt: &(impl Input + Print)) -> io::Result<bool> {
 
 // At most so many cases, so that the program ends whatever it is fed.
 fn main(rt: HostRuntime) -> io::Result<()> {
-    let mut left: usize = 100000;
-    while 0 < left {
+    for _ in 0..100000 {
         if !next_case(&rt)? {
-            return Ok(());
+            break;
         }
-        left -= 1;
     }
     Ok(())
 }

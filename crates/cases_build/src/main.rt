@@ -1,37 +1,31 @@
-// Reads builds over lent tables from standard input and writes a line for each: number, E, three figures, recorded, scratch size, how
-// many elements of each output are written, and a hash of each output's whole array, filled with a pattern before.
+// Reads builds over lent tables from standard input and writes a line for each: number, E, three figures, recorded, scratch size,
+// how many elements of each output are written, and a hash of each output's whole array, filled with a pattern before.
 // tests/make_build_cases.py says how a case is written, and makes cases and answers.
 #![tactic(auto)]
 
-use ray_tracing::{Built, Version};
+use ray_tracing::{BuildOutputs, BuildRefusal, BuildTables, Built, Version};
 use std::io;
-
-fn wide(n: u32) -> usize {
-    n as usize
-}
 
 // Number i of a case's head.
 fn number(head: &[u32; 17], i: usize) -> usize {
-    if i < 17 { wide(head[i]) } else { 0 }
+    if i < 17 { head[i] as usize } else { 0 }
 }
 
 // The bytes of table k, which follow those of the tables before it.
 fn start_of(head: &[u32; 17], k: usize) -> usize {
-    let mut at: usize = 0;
-    let mut i = 1;
-    while i < k {
+    let mut at = 0;
+    for i in 1..k {
         at = (at % 65536) + number(head, i) % 65536;
-        i += 1;
     }
     at
 }
 
 fn part(bytes: &[u8], at: usize, n: usize) -> &[u8] {
     if bytes.len() < at {
-        return &bytes[0..0];
+        return &[];
     }
     if bytes.len() - at < n {
-        return &bytes[0..0];
+        return &[];
     }
     let end = at + n;
     &bytes[at..end]
@@ -41,7 +35,7 @@ fn table<'a>(head: &[u32; 17], bytes: &'a [u8], k: usize) -> &'a [u8] {
     part(bytes, start_of(head, k), number(head, k))
 }
 
-fn print_built(rt: &impl Print, built: Built) -> io::Result<()> {
+fn print_built(rt: &impl Print, built: Result<Built, BuildRefusal>) -> io::Result<()> {
     let a = capi_answers::build_answer(built);
     let words = [
         a.number,
@@ -63,42 +57,6 @@ fn print_built(rt: &impl Print, built: Built) -> io::Result<()> {
     cases::print_words(rt, &words)
 }
 
-// A build of the case's tables into as much of each output as the case lends.
-fn run(
-    rt: &impl Print,
-    version: Version,
-    head: &[u32; 17],
-    bytes: &[u8],
-    blas_offsets: &mut [u64],
-    tlas_offsets: &mut [u64],
-    staging_ranges: &mut [u64],
-    instances: &mut [u8],
-    init_ranges: &mut [u64],
-    compactable: &mut [u16],
-    lists: &mut [u16],
-) -> io::Result<()> {
-    let built = build::build_acceleration_structures(
-        version,
-        head[0],
-        table(head, bytes, 1),
-        table(head, bytes, 2),
-        table(head, bytes, 3),
-        table(head, bytes, 4),
-        table(head, bytes, 5),
-        table(head, bytes, 6),
-        table(head, bytes, 7),
-        table(head, bytes, 8),
-        cases::first_u64(blas_offsets, number(head, 9)),
-        cases::first_u64(tlas_offsets, number(head, 10)),
-        cases::first_u64(staging_ranges, number(head, 11)),
-        cases::first_u8(instances, number(head, 12)),
-        cases::first_u64(init_ranges, number(head, 13)),
-        cases::first_u16(compactable, number(head, 14)),
-        cases::first_u16(lists, number(head, 15)),
-    );
-    print_built(rt, built)
-}
-
 // One build over arrays filled with a pattern.
 fn answer(rt: &impl Print, version: Version, head: &[u32; 17], bytes: &[u8]) -> io::Result<()> {
     let mut blas_offsets = [0xa5a5_a5a5_a5a5_a5a5u64; 72];
@@ -108,27 +66,38 @@ fn answer(rt: &impl Print, version: Version, head: &[u32; 17], bytes: &[u8]) -> 
     let mut init_ranges = [0xa5a5_a5a5_a5a5_a5a5u64; 2400];
     let mut compactable = [0xa5a5u16; 72];
     let mut lists = [0xa5a5u16; 700];
-    run(
-        rt,
+    let tables = BuildTables {
         version,
-        head,
-        bytes,
-        &mut blas_offsets,
-        &mut tlas_offsets,
-        &mut staging_ranges,
-        &mut instances,
-        &mut init_ranges,
-        &mut compactable,
-        &mut lists,
-    )?;
+        alignment: head[0],
+        buffers: table(head, bytes, 1),
+        blases: table(head, bytes, 2),
+        declared: table(head, bytes, 3),
+        tlases: table(head, bytes, 4),
+        entries: table(head, bytes, 5),
+        geometries: table(head, bytes, 6),
+        packages: table(head, bytes, 7),
+        slots: table(head, bytes, 8),
+    };
+    // As much of each output as the case lends.
+    let mut outputs = BuildOutputs {
+        blas_offsets: cases::first(&mut blas_offsets, number(head, 9)),
+        tlas_offsets: cases::first(&mut tlas_offsets, number(head, 10)),
+        staging_ranges: cases::first(&mut staging_ranges, number(head, 11)),
+        instances: cases::first(&mut instances, number(head, 12)),
+        init_ranges: cases::first(&mut init_ranges, number(head, 13)),
+        compactable: cases::first(&mut compactable, number(head, 14)),
+        lists: cases::first(&mut lists, number(head, 15)),
+    };
+    let built = build::build_acceleration_structures(&tables, &mut outputs);
+    print_built(rt, built)?;
     let hashes = [
-        cases::hash_u64(&blas_offsets),
-        cases::hash_u64(&tlas_offsets),
-        cases::hash_u64(&staging_ranges),
-        cases::hash_u8(&instances),
-        cases::hash_u64(&init_ranges),
-        cases::hash_u16(&compactable),
-        cases::hash_u16(&lists),
+        cases::hash(&blas_offsets),
+        cases::hash(&tlas_offsets),
+        cases::hash(&staging_ranges),
+        cases::hash(&instances),
+        cases::hash(&init_ranges),
+        cases::hash(&compactable),
+        cases::hash(&lists),
     ];
     cases::print_line(rt, &hashes)
 }
@@ -136,7 +105,7 @@ fn answer(rt: &impl Print, version: Version, head: &[u32; 17], bytes: &[u8]) -> 
 // One case; false at the end of the input, and for a version that there is not.
 fn next_case(rt: &(impl Input + Print)) -> io::Result<bool> {
     let mut head = [0u32; 17];
-    if cases::fill_u32(rt, &mut head, 17) < 17 {
+    if cases::fill_cells(rt, &mut head, 17) < 17 {
         return Ok(false);
     }
     let mut bytes = [0u8; 65536];
@@ -151,12 +120,10 @@ fn next_case(rt: &(impl Input + Print)) -> io::Result<bool> {
 
 // At most so many builds, so that the program ends whatever it is fed.
 fn main(rt: HostRuntime) -> io::Result<()> {
-    let mut left: usize = 100000;
-    while 0 < left {
+    for _ in 0..100000 {
         if !next_case(&rt)? {
-            return Ok(());
+            break;
         }
-        left -= 1;
     }
     Ok(())
 }

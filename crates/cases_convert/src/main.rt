@@ -1,6 +1,7 @@
-// Reads sheets from standard input, each after its length and the room that it is converted into, as u32s, and writes for each a line of each
-// way, to version 2 and to version 1: number, place, bytes written, and a hash of all the room, filled with a pattern before. What is written
-// is converted back: its line, and whether it has the sheet's own bytes. tests/make_convert_cases.py makes sheets and answers.
+// Reads sheets from standard input, each after its length and the room that it is converted into, as u32s, and writes for each a
+// line of each way, to version 2 and to version 1: number, place, bytes written, and a hash of all the room, filled with a pattern
+// before. What is written is converted back: its line, and whether it has the sheet's own bytes. tests/make_convert_cases.py makes
+// sheets and answers.
 #![tactic(auto)]
 
 use ray_tracing::{Version, WriteAnswer};
@@ -21,7 +22,7 @@ fn print_converted(
     out: &mut [u8],
 ) -> io::Result<usize> {
     let a = convert(to, sheet, out);
-    let line = [a.number, a.place, a.written, cases::hash_u8(out)];
+    let line = [a.number, a.place, a.written, cases::hash(out)];
     cases::print_line(rt, &line)?;
     Ok(a.written as usize)
 }
@@ -56,7 +57,7 @@ fn print_there_and_back(
     room: usize,
 ) -> io::Result<()> {
     let mut there = [165u8; 65536];
-    let n = print_converted(rt, to, sheet, cases::first_u8(&mut there, room))?;
+    let n = print_converted(rt, to, sheet, cases::first(&mut there, room))?;
     if 0 < n {
         print_back(rt, from, first(&there, n), sheet)?;
     }
@@ -79,12 +80,10 @@ fn next_case(rt: &(impl Input + Print)) -> io::Result<bool> {
 
 // At most so many sheets, so that the program ends whatever it is fed.
 fn main(rt: HostRuntime) -> io::Result<()> {
-    let mut left: usize = 100000;
-    while 0 < left {
+    for _ in 0..100000 {
         if !next_case(&rt)? {
-            return Ok(());
+            break;
         }
-        left -= 1;
     }
     Ok(())
 }

@@ -1,6 +1,6 @@
-// Reads groups of slots from standard input, each after its length and the room that they are opened into, as u32s, and writes a line for
-// each: number, place, group, item, bytes written, and a hash of all the room, filled with a pattern before. tests/make_groups_cases.py makes
-// groups and answers.
+// Reads groups of slots from standard input, each after its length and the room that they are opened into, as u32s, and writes a
+// line for each: number, place, group, item, bytes written, and a hash of all the room, filled with a pattern before.
+// tests/make_groups_cases.py makes groups and answers.
 #![tactic(auto)]
 
 use std::io;
@@ -13,7 +13,7 @@ fn open(rt: &impl Print, groups: &[u8], slots: &mut [u8]) -> io::Result<()> {
         a.group,
         a.item,
         a.written,
-        cases::hash_u8(slots),
+        cases::hash(slots),
     ];
     cases::print_line(rt, &line)
 }
@@ -28,18 +28,16 @@ fn next_case(rt: &(impl Input + Print)) -> io::Result<bool> {
     let mut groups = [0u8; 65536];
     let n = cases::fill(rt, &mut groups, length);
     let mut slots = [165u8; 65536];
-    open(rt, &groups[..n], cases::first_u8(&mut slots, room))?;
+    open(rt, &groups[..n], cases::first(&mut slots, room))?;
     Ok(true)
 }
 
 // At most so many, so that the program ends whatever it is fed.
 fn main(rt: HostRuntime) -> io::Result<()> {
-    let mut left: usize = 100000;
-    while 0 < left {
+    for _ in 0..100000 {
         if !next_case(&rt)? {
-            return Ok(());
+            break;
         }
-        left -= 1;
     }
     Ok(())
 }

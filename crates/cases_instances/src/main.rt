@@ -1,6 +1,6 @@
-// Reads tables from standard input, and for each of them cases: records to read, or items to append. For each call a line: number, E, bytes
-// written or in use, and a hash of all the room, filled with a pattern before. What is read is then appended to Tlas 0 and to Tlas 1, what is
-// appended is read again. tests/make_instances_cases.py says how a case is written, and makes cases and answers.
+// Reads tables from standard input, and for each of them cases: records to read, or items to append. For each call a line: number, E,
+// bytes written or in use, and a hash of all the room, filled with a pattern before. What is read is then appended to Tlas 0 and to
+// Tlas 1, what is appended is read again. tests/make_instances_cases.py says how a case is written, and makes cases and answers.
 #![tactic(auto)]
 
 use capi_answers::{append_many_answer, instances_answer};
@@ -25,7 +25,7 @@ fn print_read(
 ) -> io::Result<InstancesAnswer> {
     let read = read_instances(records, blases, items);
     let a = instances_answer(read);
-    let line = [a.number, a.e0, a.e1, a.written, cases::hash_u8(items)];
+    let line = [a.number, a.e0, a.e1, a.written, cases::hash(items)];
     cases::print_line(rt, &line)?;
     Ok(a)
 }
@@ -40,7 +40,7 @@ fn print_appended(
 ) -> io::Result<AppendAnswer> {
     let appended = append_instances(tlases, blases, tlas, items, instances, 0);
     let a = append_many_answer(0, appended);
-    let line = [a.number, a.e0, a.e1, a.used, cases::hash_u8(instances)];
+    let line = [a.number, a.e0, a.e1, a.used, cases::hash(instances)];
     cases::print_line(rt, &line)?;
     Ok(a)
 }
@@ -61,7 +61,7 @@ fn print_back(
         blases,
         tlas,
         items,
-        cases::first_u8(&mut instances, room),
+        cases::first(&mut instances, room),
     )?;
     Ok(())
 }
@@ -85,7 +85,7 @@ fn print_records(
     room: usize,
 ) -> io::Result<()> {
     let mut items = [165u8; 65536];
-    let a = print_read(rt, records, blases, cases::first_u8(&mut items, room))?;
+    let a = print_read(rt, records, blases, cases::first(&mut items, room))?;
     if a.number == 0 {
         let n = a.written as usize;
         print_both_back(rt, tlases, blases, first(&items, n), records.len())?;
@@ -96,7 +96,7 @@ fn print_records(
 // What was appended, read where there is room for as many bytes as were lent.
 fn print_again(rt: &impl Print, records: &[u8], blases: &[u8], room: usize) -> io::Result<()> {
     let mut items = [165u8; 65536];
-    print_read(rt, records, blases, cases::first_u8(&mut items, room))?;
+    print_read(rt, records, blases, cases::first(&mut items, room))?;
     Ok(())
 }
 
@@ -115,7 +115,7 @@ fn print_items(
         blases,
         tlas,
         items,
-        cases::first_u8(&mut instances, room),
+        cases::first(&mut instances, room),
     )?;
     if a.number == 0 {
         let n = a.used as usize;
@@ -150,12 +150,10 @@ fn answer_each(
     blases: &[u8],
     count: usize,
 ) -> io::Result<()> {
-    let mut left = count;
-    while 0 < left {
+    for _ in 0..count {
         if !next_case(rt, tlases, blases)? {
-            return Ok(());
+            break;
         }
-        left -= 1;
     }
     Ok(())
 }
@@ -178,12 +176,10 @@ fn next_tables(rt: &(impl Input + Print)) -> io::Result<bool> {
 
 // At most so many tables, so that the program ends whatever it is fed.
 fn main(rt: HostRuntime) -> io::Result<()> {
-    let mut left: usize = 100000;
-    while 0 < left {
+    for _ in 0..100000 {
         if !next_tables(&rt)? {
-            return Ok(());
+            break;
         }
-        left -= 1;
     }
     Ok(())
 }

@@ -6,23 +6,20 @@
 // sheet's own bytes. Where that isn't so a line says it, which no recorded answer has.
 #![tactic(auto)]
 
-use ray_tracing::{Reported, SheetConverted};
+use ray_tracing::{ConvertSheetError, SubmissionBuffers};
 use std::io;
 use submit::Numbered;
 
 // The first n, where there are so many; else none.
 fn first(bytes: &[u8], n: usize) -> &[u8] {
-    if bytes.len() < n {
-        return &bytes[0..0];
-    }
-    &bytes[0..n]
+    bytes.get(..n).unwrap_or(&[])
 }
 
 fn is_version_2(sheet: &[u8]) -> bool {
     first(sheet, 1) == b"\x02".as_slice()
 }
 
-fn to_other_version(sheet: &[u8], out: &mut [u8]) -> SheetConverted {
+fn to_other_version(sheet: &[u8], out: &mut [u8]) -> Result<usize, ConvertSheetError> {
     if is_version_2(sheet) {
         return sheet_convert::to_version_1(sheet, out);
     }
@@ -39,16 +36,16 @@ fn expect(rt: &impl Print, holds: bool) -> io::Result<()> {
 fn hold_lines(rt: &impl Print, converted: &[u8], lines: &[u8]) -> io::Result<()> {
     let mut text = [0u8; 6134];
     match report::report(converted, &mut text) {
-        Reported::Written(n) => expect(rt, first(&text, n) == lines),
-        Reported::TooShort => expect(rt, false),
+        Ok(n) => expect(rt, first(&text, n) == lines),
+        Err(_) => expect(rt, false),
     }
 }
 
 fn hold_bytes(rt: &impl Print, converted: &[u8], sheet: &[u8]) -> io::Result<()> {
     let mut back = [0u8; 65536];
     match to_other_version(converted, &mut back) {
-        SheetConverted::Written(n) => expect(rt, first(&back, n) == sheet),
-        _ => expect(rt, false),
+        Ok(n) => expect(rt, first(&back, n) == sheet),
+        Err(_) => expect(rt, false),
     }
 }
 
@@ -56,19 +53,19 @@ fn hold_bytes(rt: &impl Print, converted: &[u8], sheet: &[u8]) -> io::Result<()>
 fn hold_converted(rt: &impl Print, sheet: &[u8], lines: &[u8]) -> io::Result<()> {
     let mut other = [0u8; 65536];
     match to_other_version(sheet, &mut other) {
-        SheetConverted::Written(n) => {
+        Ok(n) => {
             hold_lines(rt, first(&other, n), lines)?;
             hold_bytes(rt, first(&other, n), sheet)
         }
-        SheetConverted::Refused(_, _) => expect(rt, first(lines, 6) == b"sheet ".as_slice()),
-        SheetConverted::TooFar(_) => expect(rt, is_version_2(sheet)),
-        SheetConverted::TooShort => expect(rt, false),
+        Err(ConvertSheetError::Malformed(_)) => expect(rt, first(lines, 6) == b"sheet ".as_slice()),
+        Err(ConvertSheetError::OffsetTooFar(_)) => expect(rt, is_version_2(sheet)),
+        Err(ConvertSheetError::OutputTooShort) => expect(rt, false),
     }
 }
 
 fn answer_sheet(rt: &impl Print, sheet: &[u8]) -> io::Result<()> {
     let mut text = [0u8; 6134];
-    if let Reported::Written(n) = report::report(sheet, &mut text) {
+    if let Ok(n) = report::report(sheet, &mut text) {
         cases::print_first(rt, &text, n)?;
         hold_converted(rt, sheet, first(&text, n))?;
     }
@@ -84,28 +81,19 @@ fn replay_sheet(rt: &(impl Input + Print)) -> io::Result<()> {
 
 // The n cells of list i, in its room of 512, if they are lent.
 fn fill_list(rt: &impl Input, cells: &mut [u16], i: usize, n: usize) {
-    if 64 < i {
-        return;
-    }
-    if 512 < n {
+    if 64 < i || 512 < n {
         return;
     }
     let start = 512 * i;
     let end = start + n;
     if end <= cells.len() {
-        cases::fill_u16(rt, &mut cells[start..end], n);
+        cases::fill_cells(rt, &mut cells[start..end], n);
     }
 }
 
-fn wide(n: u16) -> usize {
-    n as usize
-}
-
 fn fill_lists(rt: &impl Input, cells: &mut [u16], counts: &[u16]) {
-    let mut i = 0;
-    while i < counts.len() {
-        fill_list(rt, cells, i, wide(counts[i]));
-        i += 1;
+    for (i, count) in counts.iter().enumerate() {
+        fill_list(rt, cells, i, usize::from(*count));
     }
 }
 
@@ -119,18 +107,12 @@ fn print_answer(rt: &impl Print, answer: Numbered) -> io::Result<u64> {
     Ok(answer.counter)
 }
 
-fn print_left(
-    rt: &impl Print,
-    blases: &[u8],
-    tlases: &[u8],
-    counts: &[u16],
-    cells: &[u16],
-) -> io::Result<()> {
+fn print_left(rt: &impl Print, buffers: &SubmissionBuffers<'_>) -> io::Result<()> {
     let hashes = [
-        cases::hash_u8(blases),
-        cases::hash_u8(tlases),
-        cases::hash_u16(counts),
-        cases::hash_u16(cells),
+        cases::hash(buffers.blases),
+        cases::hash(buffers.tlases),
+        cases::hash(buffers.dependency_counts),
+        cases::hash(buffers.dependencies),
     ];
     print!(rt; "left ")?;
     cases::print_line(rt, &hashes)
@@ -140,47 +122,30 @@ fn print_left(
 fn replay_piece(
     rt: &(impl Input + Print),
     counter: u64,
-    blases: &mut [u8],
-    tlases: &mut [u8],
-    counts: &mut [u16],
-    cells: &mut [u16],
+    buffers: &mut SubmissionBuffers<'_>,
 ) -> io::Result<u64> {
     let mut actions = [0u32; 2048];
     let mut lists = [0u16; 17408];
     let length = cases::next_u32(rt);
-    let n = cases::fill_u32(rt, &mut actions, length);
+    let n = cases::fill_cells(rt, &mut actions, length);
     let length = cases::next_u32(rt);
-    let m = cases::fill_u16(rt, &mut lists, length);
-    let answer = submit::submit_numbers(
-        counter,
-        blases,
-        tlases,
-        counts,
-        cells,
-        &actions[..n],
-        &lists[..m],
-    );
+    let m = cases::fill_cells(rt, &mut lists, length);
+    let answer = submit::submit_numbers(counter, buffers, &actions[..n], &lists[..m]);
     let next = print_answer(rt, answer)?;
-    print_left(rt, blases, tlases, counts, cells)?;
+    print_left(rt, buffers)?;
     Ok(next)
 }
 
-// The starting lists, then the pieces.
-fn replay_lent(
+// The pieces in turn, each on what the one before left.
+fn replay_pieces(
     rt: &(impl Input + Print),
     pieces: usize,
     counter: u64,
-    blases: &mut [u8],
-    tlases: &mut [u8],
-    counts: &mut [u16],
-    cells: &mut [u16],
+    buffers: &mut SubmissionBuffers<'_>,
 ) -> io::Result<()> {
-    fill_lists(rt, cells, counts);
     let mut next = counter;
-    let mut left = pieces;
-    while 0 < left {
-        next = replay_piece(rt, next, blases, tlases, counts, cells)?;
-        left -= 1;
+    for _ in 0..pieces {
+        next = replay_piece(rt, next, buffers)?;
     }
     Ok(())
 }
@@ -197,17 +162,17 @@ fn replay_submission(rt: &(impl Input + Print)) -> io::Result<()> {
     let length = cases::next_u32(rt);
     let t = cases::fill(rt, &mut tlases, length);
     let length = cases::next_u32(rt);
-    let n = cases::fill_u16(rt, &mut counts, length);
+    let n = cases::fill_cells(rt, &mut counts, length);
     let length = cases::next_u32(rt);
-    replay_lent(
-        rt,
-        pieces,
-        counter,
-        &mut blases[..b],
-        &mut tlases[..t],
-        &mut counts[..n],
-        cases::first_u16(&mut cells, length),
-    )
+    let dependencies = cases::first(&mut cells, length);
+    fill_lists(rt, &mut *dependencies, &counts[..n]);
+    let mut buffers = SubmissionBuffers {
+        blases: &mut blases[..b],
+        tlases: &mut tlases[..t],
+        dependency_counts: &mut counts[..n],
+        dependencies,
+    };
+    replay_pieces(rt, pieces, counter, &mut buffers)
 }
 
 // One record: 1 a sheet, 2 a submission; false at the input's end.
@@ -222,12 +187,10 @@ fn next_record(rt: &(impl Input + Print)) -> io::Result<bool> {
 
 // At most so many records, so that the program ends whatever it is fed.
 fn main(rt: HostRuntime) -> io::Result<()> {
-    let mut left: usize = 100000;
-    while 0 < left {
+    for _ in 0..100000 {
         if !next_record(&rt)? {
             return Ok(());
         }
-        left -= 1;
     }
     Ok(())
 }

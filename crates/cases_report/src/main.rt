@@ -3,12 +3,11 @@
 #![tactic(auto)]
 
 use cases::print_first;
-use ray_tracing::Reported;
 use std::io;
 
 fn print_report(rt: &impl Print, sheet: &[u8]) -> io::Result<()> {
     let mut text = [0u8; 6134];
-    if let Reported::Written(n) = report::report(sheet, &mut text) {
+    if let Ok(n) = report::report(sheet, &mut text) {
         print_first(rt, &text, n)?;
     }
     Ok(())
@@ -16,7 +15,7 @@ fn print_report(rt: &impl Print, sheet: &[u8]) -> io::Result<()> {
 
 fn print_explained(rt: &impl Print, sheet: &[u8]) -> io::Result<()> {
     let mut text = [0u8; 6381];
-    if let Reported::Written(n) = explain::explain(sheet, &mut text) {
+    if let Ok(n) = explain::explain(sheet, &mut text) {
         print_first(rt, &text, n)?;
     }
     Ok(())
@@ -37,12 +36,10 @@ fn next_case(rt: &(impl Input + Print)) -> io::Result<bool> {
 
 // At most so many sheets, so that the program ends whatever it is fed.
 fn main(rt: HostRuntime) -> io::Result<()> {
-    let mut left: usize = 100000;
-    while 0 < left {
+    for _ in 0..100000 {
         if !next_case(&rt)? {
             return Ok(());
         }
-        left -= 1;
     }
     Ok(())
 }

@@ -4,37 +4,24 @@
 #![tactic(auto)]
 
 use cases::{next_u64, print_line};
-use scratch::{Rounding, add_rounded, align_to, is_power_of_two};
+use scratch::{add_rounded, align_to, is_power_of_two};
 use std::io;
 
-fn one_if(yes: bool) -> u64 {
-    if yes { 1 } else { 0 }
-}
-
-// 0 where it passed.
-fn fits(r: Rounding) -> u64 {
-    match r {
-        Rounding::Rounded(_) => 1,
-        Rounding::Passed => 0,
-    }
-}
-
-fn value(r: Rounding) -> u64 {
-    match r {
-        Rounding::Rounded(n) => n,
-        Rounding::Passed => 0,
-    }
-}
-
 fn print_rounding(rt: &impl Print, total: u64, size: u64, alignment: u64) -> io::Result<()> {
-    let power = one_if(is_power_of_two(alignment));
+    let power = u64::from(is_power_of_two(alignment));
     if alignment == 0 {
         let line = [power];
         return print_line(rt, &line);
     }
     let rounded = align_to(size, alignment);
     let sum = add_rounded(total, size, alignment);
-    let line = [power, fits(rounded), value(rounded), fits(sum), value(sum)];
+    let line = [
+        power,
+        u64::from(rounded.is_some()),
+        rounded.unwrap_or(0),
+        u64::from(sum.is_some()),
+        sum.unwrap_or(0),
+    ];
     print_line(rt, &line)
 }
 
@@ -51,12 +38,10 @@ fn next_case(rt: &(impl Input + Print)) -> io::Result<bool> {
 
 // At most so many roundings, so that the program ends whatever it is fed.
 fn main(rt: HostRuntime) -> io::Result<()> {
-    let mut left: usize = 100000;
-    while 0 < left {
+    for _ in 0..100000 {
         if !next_case(&rt)? {
             return Ok(());
         }
-        left -= 1;
     }
     Ok(())
 }

@@ -1,8 +1,8 @@
-// Reads sheets from standard input, each after its length as a u32, and writes a line for each: the refusal's number and place, or 0,
-// version, alignment, counter, and the start and count of each section. tests/make_read_cases.py makes sheets and answers.
+// Reads sheets from standard input, each after its length as a u32, and writes a line for each: the refusal's number and place, or
+// 0, version, alignment, counter, and the start and count of each section. tests/make_read_cases.py makes sheets and answers.
 #![tactic(auto)]
 
-use ray_tracing::{Section, Sheet, SheetError, SheetRead, Version};
+use ray_tracing::{Section, Sheet, SheetError, Version};
 use std::io;
 
 fn number(e: SheetError) -> u64 {
@@ -54,9 +54,9 @@ fn print_sheet(rt: &impl Print, s: Sheet) -> io::Result<()> {
 
 fn answer(rt: &impl Print, sheet: &[u8]) -> io::Result<()> {
     match sheet::read_sheet(sheet) {
-        SheetRead::Accepted(s) => print_sheet(rt, s),
-        SheetRead::Refused(e, place) => {
-            let line = [number(e), place as u64];
+        Ok(s) => print_sheet(rt, s),
+        Err(r) => {
+            let line = [number(r.error), r.place as u64];
             cases::print_line(rt, &line)
         }
     }
@@ -76,12 +76,10 @@ fn next_case(rt: &(impl Input + Print)) -> io::Result<bool> {
 
 // At most so many sheets, so that the program ends whatever it is fed.
 fn main(rt: HostRuntime) -> io::Result<()> {
-    let mut left: usize = 100000;
-    while 0 < left {
+    for _ in 0..100_000 {
         if !next_case(&rt)? {
-            return Ok(());
+            break;
         }
-        left -= 1;
     }
     Ok(())
 }

@@ -1,7 +1,8 @@
-// Reads submissions from standard input and writes a line for each: number, action, two figures, the counter after it, and a hash of
-// each lent buffer. tests/make_submit_cases.py says how a case is written, and makes cases and answers.
+// Reads submissions from standard input and writes a line for each: number, action, two figures, the counter after it, and a hash
+// of each lent buffer. tests/make_submit_cases.py says how a case is written, and makes cases and answers.
 #![tactic(auto)]
 
+use ray_tracing::SubmissionBuffers;
 use std::io;
 
 // What is lent: the counter, and how much of each buffer.
@@ -14,38 +15,25 @@ struct Lent {
     cells: usize,
 }
 
-fn with_counter(lent: Lent, counter: u64) -> Lent {
-    Lent {
-        counter,
-        blases: lent.blases,
-        tlases: lent.tlases,
-        counts: lent.counts,
-        cells: lent.cells,
-    }
-}
-
 // One submission over what is lent, and its line; the counter after it.
 fn run(
     rt: &impl Print,
     counter: u64,
-    blases: &mut [u8],
-    tlases: &mut [u8],
-    counts: &mut [u16],
-    cells: &mut [u16],
+    buffers: &mut SubmissionBuffers<'_>,
     actions: &[u32],
     lists: &[u16],
 ) -> io::Result<u64> {
-    let s = submit::submit_numbers(counter, blases, tlases, counts, cells, actions, lists);
+    let s = submit::submit_numbers(counter, &mut *buffers, actions, lists);
     let line = [
         s.number,
         s.action,
         s.first,
         s.second,
         s.counter,
-        cases::hash_u8(blases),
-        cases::hash_u8(tlases),
-        cases::hash_u16(counts),
-        cases::hash_u16(cells),
+        cases::hash(buffers.blases),
+        cases::hash(buffers.tlases),
+        cases::hash(buffers.dependency_counts),
+        cases::hash(buffers.dependencies),
     ];
     cases::print_line(rt, &line)?;
     Ok(s.counter)
@@ -64,20 +52,18 @@ fn act(
 ) -> io::Result<u64> {
     let mut actions = [0u32; 4096];
     let mut lists = [0u16; 4096];
-    let n = cases::fill_u32(rt, &mut actions, n);
-    let m = cases::fill_u16(rt, &mut lists, m);
-    run(
-        rt,
-        lent.counter,
-        cases::first_u8(blases, lent.blases),
-        cases::first_u8(tlases, lent.tlases),
-        cases::first_u16(counts, lent.counts),
-        cases::first_u16(cells, lent.cells),
-        &actions[..n],
-        &lists[..m],
-    )
+    let n = cases::fill_cells(rt, &mut actions, n);
+    let m = cases::fill_cells(rt, &mut lists, m);
+    let mut buffers = SubmissionBuffers {
+        blases: cases::first(blases, lent.blases),
+        tlases: cases::first(tlases, lent.tlases),
+        dependency_counts: cases::first(counts, lent.counts),
+        dependencies: cases::first(cells, lent.cells),
+    };
+    run(rt, lent.counter, &mut buffers, &actions[..n], &lists[..m])
 }
 
+// The library has no `From` for this one.
 fn wide(n: u32) -> usize {
     n as usize
 }
@@ -107,8 +93,8 @@ fn fill_tables(
 ) {
     cases::fill(rt, blases, wide(head[1]));
     cases::fill(rt, tlases, wide(head[2]));
-    cases::fill_u16(rt, counts, wide(head[3]));
-    cases::fill_u16(rt, cells, wide(head[4]));
+    cases::fill_cells(rt, counts, wide(head[3]));
+    cases::fill_cells(rt, cells, wide(head[4]));
 }
 
 // One case after its first seven numbers; what is lent for one that goes on with what it leaves.
@@ -126,7 +112,7 @@ fn next_case(
     let n = wide(head[5]);
     let m = wide(head[6]);
     let counter = act(rt, lent, blases, tlases, counts, cells, n, m)?;
-    Ok(with_counter(lent, counter))
+    Ok(Lent { counter, ..lent })
 }
 
 // At most so many submissions, so that the program ends whatever it is fed.
@@ -142,10 +128,9 @@ fn main(rt: HostRuntime) -> io::Result<()> {
         counts: 0,
         cells: 0,
     };
-    let mut left: usize = 100000;
-    while 0 < left {
+    for _ in 0..100000 {
         let mut head = [0u32; 7];
-        if cases::fill_u32(&rt, &mut head, 7) < 7 {
+        if cases::fill_cells(&rt, &mut head, 7) < 7 {
             return Ok(());
         }
         lent = next_case(
@@ -157,7 +142,6 @@ fn main(rt: HostRuntime) -> io::Result<()> {
             &mut counts,
             &mut cells,
         )?;
-        left -= 1;
     }
     Ok(())
 }

@@ -3,13 +3,12 @@
 #![tactic(auto)]
 
 use cases::{next_u64, print_first};
-use ray_tracing::Reported;
 use report_words::{Refusal, words};
 use std::io;
 
 fn print_words_of(rt: &impl Print, refusal: Refusal) -> io::Result<()> {
     let mut text = [0u8; 247];
-    if let Reported::Written(n) = words(refusal, &mut text) {
+    if let Ok(n) = words(refusal, &mut text) {
         print_first(rt, &text, n)?;
     }
     Ok(())
@@ -35,12 +34,10 @@ fn next_case(rt: &(impl Input + Print)) -> io::Result<bool> {
 
 // At most so many refusals, so that the program ends whatever it is fed.
 fn main(rt: HostRuntime) -> io::Result<()> {
-    let mut left: usize = 100000;
-    while 0 < left {
+    for _ in 0..100000 {
         if !next_case(&rt)? {
             return Ok(());
         }
-        left -= 1;
     }
     Ok(())
 }

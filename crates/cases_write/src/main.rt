@@ -1,6 +1,6 @@
-// Reads pairs of sheets from standard input, each sheet after its length and the room that it is written into, as u32s, and writes a line for
-// each sheet: number, place, bytes written, and a hash of all the room, filled with a pattern before; after two that are written whether their
-// bytes are the same. tests/make_write_cases.py makes sheets and answers.
+// Reads pairs of sheets from standard input, each sheet after its length and the room that it is written into, as u32s, and writes
+// a line for each sheet: number, place, bytes written, and a hash of all the room, filled with a pattern before; after two that are
+// written whether their bytes are the same. tests/make_write_cases.py makes sheets and answers.
 #![tactic(auto)]
 
 use std::io;
@@ -8,7 +8,7 @@ use std::io;
 // Writes a sheet into the room, prints its line, and says how many bytes are written: 0 for a refused one.
 fn write(rt: &impl Print, sheet: &[u8], out: &mut [u8]) -> io::Result<usize> {
     let a = capi_answers::write_answer(sheet_write::write_sheet(sheet, out));
-    let line = [a.number, a.place, a.written, cases::hash_u8(out)];
+    let line = [a.number, a.place, a.written, cases::hash(out)];
     cases::print_line(rt, &line)?;
     Ok(a.written as usize)
 }
@@ -22,7 +22,7 @@ fn write_next(rt: &(impl Input + Print), out: &mut [u8]) -> io::Result<usize> {
     }
     let mut sheet = [0u8; 65536];
     let n = cases::fill(rt, &mut sheet, length);
-    write(rt, &sheet[..n], cases::first_u8(out, room))
+    write(rt, &sheet[..n], cases::first(out, room))
 }
 
 fn print_same(rt: &impl Print, a: &[u8], b: &[u8]) -> io::Result<()> {
@@ -64,12 +64,10 @@ fn next_case(rt: &(impl Input + Print)) -> io::Result<bool> {
 
 // At most so many pairs, so that the program ends whatever it is fed.
 fn main(rt: HostRuntime) -> io::Result<()> {
-    let mut left: usize = 100000;
-    while 0 < left {
+    for _ in 0..100000 {
         if !next_case(&rt)? {
-            return Ok(());
+            break;
         }
-        left -= 1;
     }
     Ok(())
 }

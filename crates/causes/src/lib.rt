@@ -10,7 +10,7 @@ use ray_tracing::{
     SheetError, ValidateAsActionsError,
 };
 
-// A cause's number and its figures; those that a refusal lacks are 0.
+// A cause's number and its figures, as the C answers have them; those that a refusal lacks are 0.
 #[derive(Clone, Copy)]
 pub struct Figures {
     pub number: u64,
@@ -57,9 +57,9 @@ fn resource_figures(number: u64, r: Resource) -> Figures
     ensures { cause_of result ≡ sorted number r }
 {
     match r {
-        Resource::Buffer(b) => with_figures(number, 1, b.0 as u64, 0),
-        Resource::Blas(b) => with_figures(number, 2, b.0 as u64, 0),
-        Resource::Tlas(t) => with_figures(number, 3, t.0 as u64, 0),
+        Resource::Buffer(b) => with_figures(number, 1, b.0.into(), 0),
+        Resource::Blas(b) => with_figures(number, 2, b.0.into(), 0),
+        Resource::Tlas(t) => with_figures(number, 3, t.0.into(), 0),
     }
 }
 
@@ -83,20 +83,20 @@ pub fn build_figures(e: Error) -> Figures
         Error::IncompatibleBlasBuildSizes => with_figures(11, 0, 0, 0),
         Error::IncompatibleBlasFlags(declared, given) => with_figures(
             12,
-            declared as u64,
-            given as u64,
+            declared.into(),
+            given.into(),
             0,
         ),
         Error::IncompatibleBlasVertexCount(declared, given) => with_figures(
             13,
-            declared as u64,
-            given as u64,
+            declared.into(),
+            given.into(),
             0,
         ),
         Error::DifferentBlasVertexFormats(declared, given) => with_figures(
             14,
-            declared as u64,
-            given as u64,
+            declared.into(),
+            given.into(),
             0,
         ),
         Error::VertexStrideTooSmall(needed, given) => with_figures(15, needed, given, 0),
@@ -104,19 +104,19 @@ pub fn build_figures(e: Error) -> Figures
         Error::BlasIndexCountProvidedMismatch => with_figures(17, 0, 0, 0),
         Error::IncompatibleBlasIndexCount(declared, given) => with_figures(
             18,
-            declared as u64,
-            given as u64,
+            declared.into(),
+            given.into(),
             0,
         ),
         Error::DifferentBlasIndexFormats(declared, given) => with_figures(
             19,
-            declared as u64,
-            given as u64,
+            declared.into(),
+            given.into(),
             0,
         ),
         Error::MissingIndexBuffer => with_figures(20, 0, 0, 0),
         Error::DestroyedResource(r) => resource_figures(21, r),
-        Error::MissingBufferUsage(b) => with_figures(22, 1, b.0 as u64, 0),
+        Error::MissingBufferUsage(b) => with_figures(22, 1, b.0.into(), 0),
         Error::InsufficientBufferSize {
             offset,
             region_size,
@@ -129,14 +129,14 @@ pub fn build_figures(e: Error) -> Figures
             count,
             stride,
         } => with_figures(26, offset, count, stride),
-        Error::InvalidIndexCount(n) => with_figures(27, n as u64, 0, 0),
+        Error::InvalidIndexCount(n) => with_figures(27, n.into(), 0, 0),
         Error::UseTransformMissing => with_figures(28, 0, 0, 0),
         Error::UnalignedTransformBufferOffset => with_figures(29, 0, 0, 0),
         Error::TransformMissing => with_figures(30, 0, 0, 0),
         Error::IncompatibleBlasAabbPrimitiveCount(declared, given) => with_figures(
             31,
-            declared as u64,
-            given as u64,
+            declared.into(),
+            given.into(),
             0,
         ),
         Error::UnalignedAabbPrimitiveOffset => with_figures(32, 0, 0, 0),
@@ -145,8 +145,8 @@ pub fn build_figures(e: Error) -> Figures
         Error::TlasDependentMissingVertexReturn => with_figures(35, 0, 0, 0),
         Error::TlasInstanceCountExceeded(count, most) => with_figures(
             36,
-            count as u64,
-            most as u64,
+            count.into(),
+            most.into(),
             0,
         ),
         Error::OutOfMemory(t) => with_figures(37, running_total(t), 0, 0),
@@ -158,7 +158,7 @@ pub fn build_figures(e: Error) -> Figures
 fn ids(number: u64, first: u16, second: u16) -> Figures
     ensures { cause_of result ≡ cause number first second 0 }
 {
-    with_figures(number, first as u64, second as u64, 0)
+    with_figures(number, first.into(), second.into(), 0)
 }
 
 pub fn submission_figures(e: ValidateAsActionsError) -> Figures

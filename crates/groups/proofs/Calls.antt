@@ -1,4 +1,5 @@
 -- What a call of `open_groups` answers and leaves, by what judging and opening find.
+use Rattle.std.specs.Prelude.{Result, Ok, Err}
 use Prim.Native.Nat.{ℕ, ◌-◌, ◌*◌, ◌≤◌, ◌<◌}
 use native.Mathlib.Omega.{arith}
 use mathlib.Core.Path.{◌≡◌, refl, sym, ap, ◌∙◌, subst}
@@ -6,14 +7,17 @@ use mathlib.Core.List.{List, map}
 use lib.ListN.{length, take}
 use lib.Seq.{sets, get_or-take, length-take-le}
 use borrow.Author.Tests.{lt-ltb, le-ltb}
-use Rattle.ray_tracing.specs.Groups.{Slot, group_count, group_of, open_group, slots_of, slot_records, fine, refused, judge_groups, judge_opening, Opening, opened, unopened, open_rule, opening_leaves, OpensGroups}
+use Rattle.ray_tracing.specs.declared.GroupsError.{GroupsError}
+use Rattle.ray_tracing.specs.declared.GroupsError.TheVariants as groups-error
+use Rattle.ray_tracing.specs.declared.OpenGroupsError.TheVariants as open-groups
+use Rattle.ray_tracing.specs.Causes.{sheet_number}
+use Rattle.ray_tracing.specs.Groups.{Slot, group_count, group_of, open_group, slots_of, slot_records, fine, judge_groups, judge_opening, Opening, opened, unopened, open_rule, opening_leaves, opening_of, OpensGroups}
 use Rattle.ray_tracing.proofs.Groups.{judged_first}
-use Rattle.groups_judge.specs.Found.{Began}
+use Rattle.groups_judge.specs.Found.{finding_of, Began}
 use Rattle.groups_judge.proofs.Laws.{fine_groups}
 use Rattle.groups_open.specs.Places as places
 use Rattle.groups_open.specs.Places.{counted, placed}
-use Rattle.groups_open.specs.declared.Opened.{Opened}
-use Rattle.groups_open.specs.declared.Opened.TheVariants.{Slots, Full}
+use Rattle.groups_open.specs.declared.Full.{Full}
 use Rattle.groups_open.proofs.Laws.{counted-all, counted_over, counted-fine, placed-all}
 use Rattle.groups.specs.Items.{items_at, Within}
 use Rattle.groups.proofs.Slots.{slots_stand, records_are, records_length, within}
@@ -24,8 +28,11 @@ module _ (s out p : List ℕ) where
 
 -- groups that judging refuses
 pub refused_so :
-    (s out : List ℕ) (n a g i : ℕ) → judge_groups s ≡ refused n a g i → OpensGroups s out (unopened n a g i) out
-refused_so s out n a g i e = by_rule s out out (unopened n a g i) (judged_first s (length out) n a g i e) refl
+    (s out : List ℕ) (r : GroupsError) → finding_of (Err r) ≡ judge_groups s → OpensGroups s out (opening_of (Err (open-groups.Invalid r))) out
+refused_so s out (groups-error.Malformed r) e =
+    by_rule s out out (unopened (sheet_number r.error) r.place 0 0) (judged_first s (length out) (sheet_number r.error) r.place 0 0 (sym e)) refl
+refused_so s out (groups-error.InvalidGroup g i) e =
+    by_rule s out out (unopened 45 0 g i) (judged_first s (length out) 45 0 g i (sym e)) refl
 
 module _ (s out : List ℕ) (f : judge_groups s ≡ fine) where
   size : length (slot_records s) ≡ length (slots_of s) * 56
@@ -33,11 +40,11 @@ module _ (s out : List ℕ) (f : judge_groups s ≡ fine) where
   size = records_length s (slots_of s) (slots_stand s f)
 
   -- a slot too many
-  pub over_so : (g i : ℕ) → counted 0 (slots_of s) ≡ Full g i → OpensGroups s out (unopened 46 0 g i) out
+  pub over_so : (x : Full) → counted 0 (slots_of s) ≡ Err x → OpensGroups s out (unopened 46 0 x.group x.item) out
   unfolding open_rule judge_opening
-  over_so g i e = by_rule s out out (unopened 46 0 g i) (rw (f, counted_over (slots_of s) g i e)) refl
+  over_so x e = by_rule s out out (unopened 46 0 x.group x.item) (rw (f, counted_over (slots_of s) x e)) refl
 
-  module _ (n : ℕ) (e : counted 0 (slots_of s) ≡ Slots n) where
+  module _ (n : ℕ) (e : counted 0 (slots_of s) ≡ Ok n) where
     count : n ≡ length (slots_of s)
     count = omega (arith, (counted-all 0 n (slots_of s) (omega arith) e).0)
 
@@ -63,13 +70,13 @@ module _ (s out : List ℕ) (f : judge_groups s ≡ fine) where
 
 -- the group that is opened is the last
 module _ (s : List ℕ) (count : ℕ) (e : count ≡ group_count s) where
-  pub counted_so : (r : Opened) → r ≡ counted 0 (open_group (group_of s) (count - 1)) → counted 0 (slots_of s) ≡ r
+  pub counted_so : (r : Result ℕ Full) → r ≡ counted 0 (open_group (group_of s) (count - 1)) → counted 0 (slots_of s) ≡ r
   unfolding slots_of
   counted_so r q = ap (λ (n : ℕ). counted 0 (open_group (group_of s) (n - 1))) (sym e) ∙ sym q
 
   pub places_so :
       (n : ℕ) (found out : List ℕ)
-      → counted 0 (slots_of s) ≡ Slots n
+      → counted 0 (slots_of s) ≡ Ok n
       → 512 ≤ length out
       → found ≡ placed 0 (open_group (group_of s) (count - 1)) out
       → take n found ≡ map (λ (x : Slot). x.at) (slots_of s)

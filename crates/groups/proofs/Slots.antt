@@ -138,21 +138,21 @@ module _ (s : List ℕ) where
 -- ---- items copied one behind the other
 
 pub put_next :
-    (s places out : List ℕ) (k : ℕ)
+    (s places out : List ℕ) (to k : ℕ)
     → k < length places
     → get_or places k 0 + 56 ≤ length s
-    → sets (sets out (k * 56) (take 56 (drop (get_or places k 0) s))) ((k + 1) * 56) (items_at s (drop (k + 1) places)) ≡
-    sets out (k * 56) (items_at s (drop k places))
+    → sets (sets out to (take 56 (drop (get_or places k 0) s))) (to + 56) (items_at s (drop (k + 1) places)) ≡
+    sets out to (items_at s (drop k places))
 unfolding items_at flatten
-put_next s places out k h w =
+put_next s places out to k h w =
     let item = take 56 (drop (get_or places k 0) s) in
     let rest = items_at s (drop (k + 1) places) in
-    let next : (k + 1) * 56 ≡ k * 56 + length item = omega (arith, part_length s 56 (get_or places k 0) w) in
-    ap (λ (m : ℕ). sets (sets out (k * 56) item) m rest) next
-    ∙ sets-append item rest out (k * 56)
-    ∙ ap (λ (m : ℕ). sets out (k * 56) (item ++ items_at s (drop m places))) (add-one k)
-    ∙ ap (λ (l : List ℕ). sets out (k * 56) (items_at s l)) (sym (drop-cons places k 0 h))
+    let next : to + 56 ≡ to + length item = omega (arith, part_length s 56 (get_or places k 0) w) in
+    ap (λ (m : ℕ). sets (sets out to item) m rest) next
+    ∙ sets-append item rest out to
+    ∙ ap (λ (m : ℕ). sets out to (item ++ items_at s (drop m places))) (add-one k)
+    ∙ ap (λ (l : List ℕ). sets out to (items_at s l)) (sym (drop-cons places k 0 h))
 
-pub put_done : (s places out : List ℕ) (k : ℕ) → length places ≤ k → sets out (k * 56) (items_at s (drop k places)) ≡ out
+pub put_done : (s places out : List ℕ) (to k : ℕ) → length places ≤ k → sets out to (items_at s (drop k places)) ≡ out
 unfolding items_at flatten
-put_done s places out k h = rw (drop_of_length-le places h)
+put_done s places out to k h = rw (drop_of_length-le places h)

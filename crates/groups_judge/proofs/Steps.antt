@@ -12,25 +12,15 @@ use borrow.Author.Count.{below_more}
 use borrow.Author.Tests.{eq-eqb, ne_eqb, lt-ltb, le-ltb}
 use Rattle.wire.specs.Wire.{le_at}
 use Rattle.ray_tracing.specs.Layout.{Seen, Field, layout, total, wide, always, present, any}
-use Rattle.ray_tracing.specs.declared.Judged as code
+use Rattle.std.specs.Prelude.{Result, Ok, Err}
+use Rattle.ray_tracing.specs.declared.SheetRefusal.{SheetRefusal}
 use Rattle.ray_tracing.specs.Code.{judged_of as record_judged}
 use Rattle.ray_tracing.specs.Reading as reading
-use Rattle.ray_tracing.specs.declared.GroupsJudged.{GroupsJudged}
-use Rattle.ray_tracing.specs.declared.GroupsJudged.TheVariants as groups-judged
+use Rattle.ray_tracing.specs.declared.GroupsError.{GroupsError}
+use Rattle.ray_tracing.specs.declared.GroupsError.TheVariants as groups-error
 use Rattle.groups_judge.specs.Found.{finding_of, ended_at, Began}
 use Rattle.ray_tracing.specs.Groups.{Finding, fine, refused, found_when, ◌and_then◌, at_byte, at_item, by_byte, item_size, past_items, group_count, group_at, judge_name, judge_item, judge_items, judge_group, judge_from, judge_groups}
 use Rattle.groups_judge.proofs.Laws.{refused_not_fine, size-slot, size-named, slot_judged, item-inside, fine-group, group-inside, behind}
-
--- a name
-module _ (s : List ℕ) (g i at : ℕ) where
-  pub name_cut : length s < at + 2 → judge_name s g i at ≡ at_byte 2 at
-  name_cut h = rw (lt-ltb (length s) (at + 2) h)
-
-  pub name_good : at + 2 ≤ length s → le_at 2 s at < g → judge_name s g i at ≡ fine
-  name_good h l = rw (le-ltb (length s) (at + 2) h, lt-ltb (le_at 2 s at) g l)
-
-  pub name_late : at + 2 ≤ length s → g ≤ le_at 2 s at → judge_name s g i at ≡ at_item 45 g i
-  name_late h l = rw (le-ltb (length s) (at + 2) h, le-ltb (le_at 2 s at) g l)
 
 -- a slot's fields behind its present byte: each may have any value, so only whether they are there counts, and not what is known
 abbrev anys : List ℕ → List Field
@@ -59,14 +49,14 @@ module _ (s : List ℕ) (at : ℕ) where
     slot-as-record c = rw (le-ltb (length s) (at + 1) h, e) (then_nothing (slot_judged s at))
 
     pub slot-judged :
-        (c : Seen) {r q : code.Judged}
+        (c : Seen) {r q : Result Unit SheetRefusal}
         → record_judged r ≡ reading.judge_records c (layout 8).fields s at 1
         → r ≡ q
         → by_byte (record_judged q) ≡ by_byte (slot_judged s at)
     slot-judged c f told = ap by_byte (sym (ap record_judged told) ∙ f ∙ slot-as-record c)
 
 -- what the code found, and where it ends if that is fine
-abbrev pub Finds : GroupsJudged → Finding → ℕ → Type 0
+abbrev pub Finds : Result ℕ GroupsError → Finding → ℕ → Type 0
 Finds r j e = (finding_of r ≡ j) × (ended_at r e ≡ e)
 
 -- an item
@@ -76,11 +66,11 @@ module _ (s : List ℕ) (g i at : ℕ) where
   item_cut h = rw (lt-ltb (length s) (at + 1) (omega arith))
 
   module _ (h : at < length s) where
-    pub item-slot : (r : GroupsJudged) → le_at 1 s at ≡ 1 → Finds r (by_byte (slot_judged s at)) (at + 56) → Finds r (judge_item s g i at) (at + item_size s at)
+    pub item-slot : (r : Result ℕ GroupsError) → le_at 1 s at ≡ 1 → Finds r (by_byte (slot_judged s at)) (at + 56) → Finds r (judge_item s g i at) (at + item_size s at)
     unfolding judge_item
     item-slot r e f = rw (size-slot s at e, le-ltb (length s) (at + 1) (omega arith), eq-eqb (le_at 1 s at) 1 e) f
 
-    pub item-named : (r : GroupsJudged) → le_at 1 s at ≡ 2 → Finds r (judge_name s g i (at + 1)) (at + 1 + 2) → Finds r (judge_item s g i at) (at + item_size s at)
+    pub item-named : (r : Result ℕ GroupsError) → le_at 1 s at ≡ 2 → Finds r (judge_name s g i (at + 1)) (at + 1 + 2) → Finds r (judge_item s g i at) (at + item_size s at)
     unfolding judge_item
     item-named r e f =
         let z : at + 1 + 2 ≡ at + 3 = omega arith in
@@ -90,17 +80,13 @@ module _ (s : List ℕ) (g i at : ℕ) where
     unfolding judge_item
     item-other d f = rw (le-ltb (length s) (at + 1) (omega arith), ne_eqb (le_at 1 s at) 1 d, ne_eqb (le_at 1 s at) 2 f)
 
--- the code has seen that something is refused: then it is so whatever follows, and ends nowhere
-abbrev pub Refusal : GroupsJudged → Type 0
-Refusal r = (p : ℕ) → ¬ (r ≡ groups-judged.EndsAt p)
-
-stops : (r : GroupsJudged) (j next : Finding) (e : ℕ) → Refusal r → finding_of r ≡ j → Finds r (j and_then next) e
-stops (groups-judged.EndsAt p) j next e k f = absurd (k p refl)
-stops (groups-judged.Refused n p) j next e k f = (rw (← f), refl)
-stops (groups-judged.InvalidGroup g i) j next e k f = (rw (← f), refl)
+-- what is refused is so whatever follows
+stops : (x : GroupsError) (j next : Finding) → finding_of (Err x) ≡ j → finding_of (Err x) ≡ (j and_then next)
+stops (groups-error.Malformed r) j next f = rw (← f)
+stops (groups-error.InvalidGroup g i) j next f = rw (← f)
 
 -- what is fine ends where it is to
-goes : (r : GroupsJudged) {j : Finding} (e : ℕ) {p : ℕ} → Finds r j e → r ≡ groups-judged.EndsAt p → (j ≡ fine) × (p ≡ e)
+goes : (r : Result ℕ GroupsError) {j : Finding} (e : ℕ) {p : ℕ} → Finds r j e → r ≡ Ok p → (j ≡ fine) × (p ≡ e)
 goes r e f told = (sym f.0 ∙ ap finding_of told, ap (λ q. ended_at q e) (sym told) ∙ f.1)
 
 one_left : (count i : ℕ) → i < count → count - i ≡ suc (count - (i + 1))
@@ -132,18 +118,18 @@ module _ (s : List ℕ) (g start count : ℕ) where
       }
 
   module _ (i at : ℕ) (left : Left i at) where
-    pub left-none : count ≤ i → Finds (groups-judged.EndsAt at) (judge_group s g start) (past_items s (le_at 2 s start) (start + 2))
+    pub left-none : count ≤ i → Finds (Ok at) (judge_group s g start) (past_items s (le_at 2 s start) (start + 2))
     unfolding judge_items past_items
     left-none h =
         let z : count - i ≡ 0 = omega arith in
         (sym (rw z at left.judged), sym (rw z at left.ends))
 
-    module _ (h : i < count) (r : GroupsJudged) (f : Finds r (judge_item s g i at) (at + item_size s at)) where
-      pub left-stop : Refusal r → Finds r (judge_group s g start) (past_items s (le_at 2 s start) (start + 2))
+    module _ (h : i < count) (r : Result ℕ GroupsError) (f : Finds r (judge_item s g i at) (at + item_size s at)) where
+      pub left-stop : {x : GroupsError} → r ≡ Err x → finding_of (Err x) ≡ judge_group s g start
       unfolding judge_items
-      left-stop k = rw (left.judged, one_left count i h) (stops r _ _ _ k f.0)
+      left-stop {x} told = rw (left.judged, one_left count i h) (stops x _ _ (sym (ap finding_of told) ∙ f.0))
 
-      pub left_more : {e : ℕ} → r ≡ groups-judged.EndsAt e → (e ≤ length s) × Left (i + 1) e
+      pub left_more : {e : ℕ} → r ≡ Ok e → (e ≤ length s) × Left (i + 1) e
       unfolding judge_items past_items
       left_more told =
           let w = goes r (at + item_size s at) f told in (
@@ -170,16 +156,15 @@ module _ (s : List ℕ) where
     groups_none e = rw (le-ltb (length s) 2 h, e)
 
   -- an answer, and the table that is left with it: where something is refused nothing is said of that
-  abbrev pub Answers : GroupsJudged → List ℕ → Type 0
+  abbrev pub Answers : Result ℕ GroupsError → List ℕ → Type 0
   Answers r starts = (finding_of r ≡ judge_groups s) × Began s starts
 
   pub refuses : {n p g i : ℕ} (starts : List ℕ) → judge_groups s ≡ refused n p g i → (refused n p g i ≡ judge_groups s) × Began s starts
   refuses starts e = (sym e, λ f. absurd (refused_not_fine (sym e ∙ f)))
 
-  refuses_by : (r : GroupsJudged) (starts : List ℕ) → Refusal r → finding_of r ≡ judge_groups s → Answers r starts
-  refuses_by (groups-judged.EndsAt p) starts k e = absurd (k p refl)
-  refuses_by (groups-judged.Refused n p) starts k e = refuses starts (sym e)
-  refuses_by (groups-judged.InvalidGroup g i) starts k e = refuses starts (sym e)
+  refuses_by : (x : GroupsError) (starts : List ℕ) → finding_of (Err x) ≡ judge_groups s → Answers (Err x) starts
+  refuses_by (groups-error.Malformed r) starts e = refuses starts (sym e)
+  refuses_by (groups-error.InvalidGroup g i) starts e = refuses starts (sym e)
 
   -- group by group: what is left to judge is judged as the whole, the next group begins at `at`, and those passed are in the table
   pub record Ahead (starts : List ℕ) (g at : ℕ) : Type 0 where
@@ -210,19 +195,19 @@ module _ (s : List ℕ) where
       pub ahead-trailing : at < length s → judge_groups s ≡ at_byte 3 at
       ahead-trailing h = rw (only-behind, lt-ltb at (length s) h)
 
-      pub ahead_none : length s ≤ at → Answers (groups-judged.EndsAt at) starts
+      pub ahead_none : length s ≤ at → Answers (Ok at) starts
       ahead_none h = (sym (rw (only-behind, le-ltb at (length s) h)), λ f k l. a.table k (omega (arith, e, l)))
 
     -- one group more
-    module _ (h : g < group_count s) (r : GroupsJudged) (f : Finds r (judge_group s g at) (past_items s (le_at 2 s at) (at + 2))) where
-      pub ahead-stop : (after : List ℕ) → Refusal r → Answers r after
+    module _ (h : g < group_count s) (r : Result ℕ GroupsError) (f : Finds r (judge_group s g at) (past_items s (le_at 2 s at) (at + 2))) where
+      pub ahead-stop : (after : List ℕ) {x : GroupsError} → r ≡ Err x → Answers (Err x) after
       unfolding judge_from
-      ahead-stop after k =
-          let first = (stops r _ (judge_from s (g + 1) (group_count s - (g + 1))) 0 k f.0).0 in
-          let all = (stops r _ (behind s) 0 k first).0 in
-          refuses_by r after k (rw (a.judged, one_left (group_count s) g h, ← a.place) all)
+      ahead-stop after {x} told =
+          let first = stops x _ (judge_from s (g + 1) (group_count s - (g + 1))) (sym (ap finding_of told) ∙ f.0) in
+          let all = stops x _ (behind s) first in
+          refuses_by x after (rw (a.judged, one_left (group_count s) g h, ← a.place) all)
 
-      pub ahead_more : {e : ℕ} → g < length starts → r ≡ groups-judged.EndsAt e → (e ≤ length s) × Ahead (set starts g at) (g + 1) e
+      pub ahead_more : {e : ℕ} → g < length starts → r ≡ Ok e → (e ≤ length s) × Ahead (set starts g at) (g + 1) e
       unfolding judge_from group_at
       ahead_more l told =
           let w = goes r (past_items s (le_at 2 s at) (at + 2)) f told in (

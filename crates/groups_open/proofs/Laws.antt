@@ -1,4 +1,5 @@
 -- Laws of counting and placing slots, and of the groups that are judged fine. Assumes nothing.
+use Rattle.std.specs.Prelude.{Result, Ok, Err}
 use Prim.Native.Nat.{ℕ, suc, ◌+◌, ◌-◌, ◌≤◌, ◌<◌}
 use native.Mathlib.Omega.{arith}
 use mathlib.Core.Path.{◌≡◌, refl, sym, ap, ◌∙◌, subst}
@@ -14,8 +15,7 @@ use Rattle.ray_tracing.specs.Groups as groups
 use Rattle.ray_tracing.specs.Groups.{Slot, item_of, item_size, items_of, group_at, group_of, open_item, open_items, open_below, open_group, fine, at_item, at_first, judge_item, judge_items, judge_most}
 use Rattle.groups_judge.proofs.Laws.{items_first, items_next, FineGroup, fine_groups}
 use Rattle.groups_open.proofs.Opening.{item-slot, item-named, items_more, items_none, group_items}
-use Rattle.groups_open.specs.declared.Opened.{Opened}
-use Rattle.groups_open.specs.declared.Opened.TheVariants.{Slots, Full}
+use Rattle.groups_open.specs.declared.Full.{Full}
 use Rattle.groups_open.specs.Places.{counted, placed, JudgedFine}
 
 -- Counted
@@ -32,7 +32,7 @@ module _ (n : ℕ) (x : Slot) (xs : List Slot) where
   unfolding counted
   counted_next h = under n _ _ _ (omega (arith, h))
 
-  counted_last : 512 ≤ n → counted n (x ∷ xs) ≡ Full x.group x.item
+  counted_last : 512 ≤ n → counted n (x ∷ xs) ≡ Err (record { group = x.group; item = x.item })
   unfolding counted
   counted_last h = over n _ _ _ (omega (arith, h))
 
@@ -43,42 +43,37 @@ by_room {A} n f g = go (ltb n 512) refl
     go true e = f (ltb-true n 512 e)
     go false e = g (ltb-false n 512 e)
 
-abbrev then : Opened → List Slot → Opened
-then (Slots k) xs = counted k xs
-then (Full g i) xs = Full g i
+abbrev then : Result ℕ Full → List Slot → Result ℕ Full
+then (Ok k) xs = counted k xs
+then (Err f) xs = Err f
 
 counted-append : (n : ℕ) (xs ys : List Slot) → counted n (xs ++ ys) ≡ then (counted n xs) ys
 unfolding counted
 counted-append n [] ys = refl
 counted-append n (x ∷ xs) ys =
     by_room n
-    (λ h. counted_next n x (xs ++ ys) h ∙ counted-append (n + 1) xs ys ∙ ap (λ (r : Opened). then r ys) (sym (counted_next n x xs h)))
-    (λ h. counted_last n x (xs ++ ys) h ∙ ap (λ (r : Opened). then r ys) (sym (counted_last n x xs h)))
+    (λ h. counted_next n x (xs ++ ys) h ∙ counted-append (n + 1) xs ys ∙ ap (λ (r : Result ℕ Full). then r ys) (sym (counted_next n x xs h)))
+    (λ h. counted_last n x (xs ++ ys) h ∙ ap (λ (r : Result ℕ Full). then r ys) (sym (counted_last n x xs h)))
 
 module _ (n : ℕ) (xs ys : List Slot) where
-  pub counted_then : (k : ℕ) → counted n xs ≡ Slots k → counted n (xs ++ ys) ≡ counted k ys
-  counted_then k e = counted-append n xs ys ∙ ap (λ (r : Opened). then r ys) e
+  pub counted_then : (k : ℕ) → counted n xs ≡ Ok k → counted n (xs ++ ys) ≡ counted k ys
+  counted_then k e = counted-append n xs ys ∙ ap (λ (r : Result ℕ Full). then r ys) e
 
-  pub counted_stop : (g i : ℕ) → counted n xs ≡ Full g i → counted n (xs ++ ys) ≡ Full g i
-  counted_stop g i e = counted-append n xs ys ∙ ap (λ (r : Opened). then r ys) e
+  pub counted_stop : (f : Full) → counted n xs ≡ Err f → counted n (xs ++ ys) ≡ Err f
+  counted_stop f e = counted-append n xs ys ∙ ap (λ (r : Result ℕ Full). then r ys) e
 
-full_not_slots : {g i k : ℕ} → ¬ (Full g i ≡ Slots k)
-full_not_slots e =
-    let z : ◌≡◌ {A = ℕ} 0 1 = cc in
-    omega arith
-
-pub counted-all : (n k : ℕ) (xs : List Slot) → n ≤ 512 → counted n xs ≡ Slots k → (k ≡ n + length xs) × (k ≤ 512)
+pub counted-all : (n k : ℕ) (xs : List Slot) → n ≤ 512 → counted n xs ≡ Ok k → (k ≡ n + length xs) × (k ≤ 512)
 unfolding counted
 counted-all n k [] h e = let q : n ≡ k = cc in omega arith
 counted-all n k (x ∷ xs) h e =
     by_room n
     (λ u. let w = counted-all (n + 1) k xs (omega (arith, u)) (sym (counted_next n x xs u) ∙ e) in omega (arith, w.0, w.1))
-    (λ o. absurd (full_not_slots (sym (counted_last n x xs o) ∙ e)))
+    (λ o. let z = counted_last n x xs o in cc)
 
 -- the one that is too many is what `judge_most` finds
-abbrev over_of : Opened → groups.Finding
-over_of (Slots k) = fine
-over_of (Full g i) = at_item 46 g i
+abbrev over_of : Result ℕ Full → groups.Finding
+over_of (Ok k) = fine
+over_of (Err f) = at_item 46 f.group f.item
 
 counted-most : (n : ℕ) (xs : List Slot) → n ≤ 512 → at_first 46 (drop (512 - n) xs) ≡ over_of (counted n xs)
 unfolding counted
@@ -92,19 +87,19 @@ counted-most n (x ∷ xs) h =
     let e : 512 - n ≡ 0 = omega (arith, o) in
     ap (λ (k : ℕ). at_first 46 (drop k (x ∷ xs))) e ∙ ap over_of (sym (counted_last n x xs o)))
 
-pub counted_over : (xs : List Slot) (g i : ℕ) → counted 0 xs ≡ Full g i → judge_most xs ≡ at_item 46 g i
-counted_over xs g i e = counted-most 0 xs (omega arith) ∙ ap over_of e
+pub counted_over : (xs : List Slot) (f : Full) → counted 0 xs ≡ Err f → judge_most xs ≡ at_item 46 f.group f.item
+counted_over xs f e = counted-most 0 xs (omega arith) ∙ ap over_of e
 
-pub counted-fine : (xs : List Slot) (k : ℕ) → counted 0 xs ≡ Slots k → judge_most xs ≡ fine
+pub counted-fine : (xs : List Slot) (k : ℕ) → counted 0 xs ≡ Ok k → judge_most xs ≡ fine
 counted-fine xs k e = counted-most 0 xs (omega arith) ∙ ap over_of e
 
 -- one too many fill what is left
-counted_fills : (n g i : ℕ) (xs : List Slot) → counted n xs ≡ Full g i → 512 - n ≤ length xs
+counted_fills : (n : ℕ) (f : Full) (xs : List Slot) → counted n xs ≡ Err f → 512 - n ≤ length xs
 unfolding counted
-counted_fills n g i [] e = absurd (full_not_slots (sym e))
-counted_fills n g i (x ∷ xs) e =
+counted_fills n f [] e = cc
+counted_fills n f (x ∷ xs) e =
     by_room n
-    (λ u. let w = counted_fills (n + 1) g i xs (sym (counted_next n x xs u) ∙ e) in omega (arith, w))
+    (λ u. let w = counted_fills (n + 1) f xs (sym (counted_next n x xs u) ∙ e) in omega (arith, w))
     (λ o. omega (arith, o))
 
 -- Placed
@@ -129,7 +124,7 @@ unfolding placed
 placed_full n xs out h = let e : 512 - n ≡ 0 = omega arith in ap (λ (k : ℕ). sets out n (places (take k xs))) e
 
 module _ (n : ℕ) (xs ys : List Slot) (out : List ℕ) where
-  placed_then : (k : ℕ) → n ≤ 512 → counted n xs ≡ Slots k → placed n (xs ++ ys) out ≡ placed k ys (placed n xs out)
+  placed_then : (k : ℕ) → n ≤ 512 → counted n xs ≡ Ok k → placed n (xs ++ ys) out ≡ placed k ys (placed n xs out)
   unfolding placed
   placed_then k most e =
       let w = counted-all n k xs most e in
@@ -142,21 +137,21 @@ module _ (n : ℕ) (xs ys : List Slot) (out : List ℕ) where
       ∙ ap (λ (m : ℕ). sets (sets out n (places xs)) m (places (take (512 - k) ys))) next
       ∙ ap (placed k ys) (sym (placed_these n xs out (omega (arith, w.0, w.1))))
 
-  placed_stop : (g i : ℕ) → counted n xs ≡ Full g i → placed n (xs ++ ys) out ≡ placed n xs out
+  placed_stop : (f : Full) → counted n xs ≡ Err f → placed n (xs ++ ys) out ≡ placed n xs out
   unfolding placed
-  placed_stop g i e = ap (λ (l : List Slot). sets out n (places l)) (take-append-le (512 - n) xs ys (counted_fills n g i xs e))
+  placed_stop f e = ap (λ (l : List Slot). sets out n (places l)) (take-append-le (512 - n) xs ys (counted_fills n f xs e))
 
 -- An item
 
 -- what opening is to give, if it comes to these slots
-abbrev pub Given : ℕ → List Slot → List ℕ → Opened → List ℕ → Type 0
+abbrev pub Given : ℕ → List Slot → List ℕ → Result ℕ Full → List ℕ → Type 0
 Given n xs out r after = (r ≡ counted n xs) × (after ≡ placed n xs out)
 
 abbrev pub opened : List ℕ → ℕ → ℕ → ℕ → List Slot
 opened s g i at = open_item (open_below (group_of s) g) (item_of s g i at)
 
 module _ (s : List ℕ) (g i at n : ℕ) (out : List ℕ) where
-  pub item_room : le_at 1 s at ≡ 1 → n < 512 → Given n (opened s g i at) out (Slots (n + 1)) (set out n at)
+  pub item_room : le_at 1 s at ≡ 1 → n < 512 → Given n (opened s g i at) out (Ok (n + 1)) (set out n at)
   unfolding counted
   item_room e h =
       let x : Slot = record { group = g; item = i; at = at } in
@@ -165,12 +160,12 @@ module _ (s : List ℕ) (g i at n : ℕ) (out : List ℕ) where
         sym (ap (λ (l : List Slot). placed n l out) one ∙ placed_these n (x ∷ []) out (omega (arith, h))),
       )
 
-  pub item_full : le_at 1 s at ≡ 1 → 512 ≤ n → Given n (opened s g i at) out (Full g i) out
+  pub item_full : le_at 1 s at ≡ 1 → 512 ≤ n → Given n (opened s g i at) out (Err (record { group = g; item = i })) out
   item_full e h =
       let one = item-slot s g i at (open_below (group_of s) g) e in
       (sym (ap (counted n) one ∙ counted_last n _ [] h), sym (placed_full n _ out h))
 
-  pub item-group : ¬ (le_at 1 s at ≡ 1) → (h : ℕ) → h ≡ le_at 2 s (at + 1) → h < g → (r : Opened) (after : List ℕ)
+  pub item-group : ¬ (le_at 1 s at ≡ 1) → (h : ℕ) → h ≡ le_at 2 s (at + 1) → h < g → (r : Result ℕ Full) (after : List ℕ)
       → Given n (open_group (group_of s) h) out r after → Given n (opened s g i at) out r after
   item-group f h e l r after (p, q) =
       let there : open_group (group_of s) h ≡ opened s g i at = ap (open_group (group_of s)) e ∙ sym (item-named s g i at (group_of s) f (omega (arith, e))) in
@@ -223,7 +218,7 @@ module _ (s : List ℕ) (g count n : ℕ) (out₀ : List ℕ) where
       record { answer = ap (counted n) all; places = ap (λ (l : List Slot). placed n l out₀) all }
 
   module _ (out : List ℕ) (total at i : ℕ) (rest : Rest out total at i) (most : total ≤ 512) where
-    pub rest_none : count ≤ i → Given n (open_group (group_of s) g) out₀ (Slots total) out
+    pub rest_none : count ≤ i → Given n (open_group (group_of s) g) out₀ (Ok total) out
     unfolding counted
     rest_none h =
         let none = items_none s g i at (open_below (group_of s) g) count h in (
@@ -231,11 +226,11 @@ module _ (s : List ℕ) (g count n : ℕ) (out₀ : List ℕ) where
           sym (rest.places ∙ ap (λ (l : List Slot). placed total l out) none ∙ placed_these total [] out (omega (arith, most))),
         )
 
-    module _ (h : i < count) (r : Opened) (after : List ℕ) (given : Given total (opened s g i at) out r after) where
+    module _ (h : i < count) (r : Result ℕ Full) (after : List ℕ) (given : Given total (opened s g i at) out r after) where
       more : left s g count at i ≡ opened s g i at ++ left s g count (at + item_size s at) (i + 1)
       more = items_more s g i at (open_below (group_of s) g) count h
 
-      pub rest_more : (k size : ℕ) → size ≡ item_size s at → r ≡ Slots k → (k ≤ 512) × Rest after k (at + size) (i + 1)
+      pub rest_more : (k size : ℕ) → size ≡ item_size s at → r ≡ Ok k → (k ≤ 512) × Rest after k (at + size) (i + 1)
       rest_more k size z told =
           let e = sym given.0 ∙ told in
           let there : left s g count (at + item_size s at) (i + 1) ≡ left s g count (at + size) (i + 1) = ap (λ (m : ℕ). left s g count (at + m) (i + 1)) (sym z) in (
@@ -252,9 +247,9 @@ module _ (s : List ℕ) (g count n : ℕ) (out₀ : List ℕ) where
             },
           )
 
-      pub rest-stop : (x y : ℕ) → r ≡ Full x y → Given n (open_group (group_of s) g) out₀ r after
-      rest-stop x y told =
+      pub rest-stop : (f : Full) → r ≡ Err f → Given n (open_group (group_of s) g) out₀ (Err f) after
+      rest-stop f told =
           let e = sym given.0 ∙ told in (
-            told ∙ sym (rest.answer ∙ ap (counted total) more ∙ counted_stop total _ _ x y e),
-            given.1 ∙ sym (rest.places ∙ ap (λ (l : List Slot). placed total l out) more ∙ placed_stop total _ _ out x y e),
+            sym (rest.answer ∙ ap (counted total) more ∙ counted_stop total _ _ f e),
+            given.1 ∙ sym (rest.places ∙ ap (λ (l : List Slot). placed total l out) more ∙ placed_stop total _ _ out f e),
           )

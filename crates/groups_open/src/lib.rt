@@ -1,20 +1,29 @@
-// Opening a group and opening an item call on each other until only slots are left: the group's number falls at each nested group, and the
-// items left fall within one. Each group opens to a slot at least (`each_opens` of `groups`), and the 513th slot ends it: so at most 513 slots
-// are reached, each through at most 64 groups, however many slots the groups name.
+// Opening a group and opening an item call on each other until only slots are left: the group's number falls at each nested group,
+// and the items left fall within one. Each group opens to a slot at least (`each_opens` of `groups`), and the 513th slot ends it:
+// so at most 513 slots are reached, each through at most 64 groups, however many slots the groups name.
 #![tactic(auto)]
 
 ghost use Rattle.std.specs.Prelude.{◌≡◌, ◌+◌, ◌≤◌, ◌<◌, length};
+ghost use Rattle.ray_tracing.specs.declared.OpenGroupsError.TheVariants as open-groups;
 ghost use Rattle.ray_tracing.specs.Groups.{fine, item_of, item_size, group_of, judge_item, open_item, open_below, open_group};
 ghost use Rattle.groups_open.specs.Places.{counted, placed, JudgedFine};
 
-use ray_tracing::{MOST_SLOTS, NAME_SIZE, SLOT_SIZE};
+use ray_tracing::{MOST_SLOTS, NAME_SIZE, OpenGroupsError, SLOT_SIZE};
 use wire::{u8_at, u16_at};
 
-// How many slots there are, or the group and the item of the first that is too many.
+// The first slot that is too many, by its group and its item there.
 #[derive(Clone, Copy)]
-pub enum Opened {
-    Slots(usize),
-    Full(usize, usize),
+pub struct Full {
+    pub group: usize,
+    pub item: usize,
+}
+
+impl From<Full> for OpenGroupsError {
+    ghost from_gives = { λ r e. e ≡ open-groups.TooManySlots r.group r.item };
+
+    fn from(full: Full) -> OpenGroupsError {
+        OpenGroupsError::TooManySlots(full.group, full.item)
+    }
 }
 
 // The bytes of the item that begins at a place.
@@ -28,7 +37,7 @@ fn item_size(groups: &[u8], at: usize) -> usize
     NAME_SIZE
 }
 
-// The slots of a group, after n others: where each begins stands in `places`.
+// The slots of a group, after n others: how many there are then, and where each begins stands in `places`.
 #[cycle(open_group_open_item)]
 pub fn open_group(
     groups: &[u8],
@@ -36,7 +45,7 @@ pub fn open_group(
     group: usize,
     places: &mut [usize],
     n: usize,
-) -> Opened
+) -> Result<usize, Full>
     requires { (JudgedFine groups.now starts.now × (group < length starts.now)) × ((512 ≤ length places.old) × (n ≤ 512)) }
     ensures answer { result ≡ counted n (open_group (group_of groups.now) group) }
     ensures places { places.new ≡ placed n (open_group (group_of groups.now) group) places.old }
@@ -45,17 +54,11 @@ pub fn open_group(
     let count = u16_at(groups, start) as usize;
     let mut total = n;
     let mut at = start + 2;
-    let mut i = 0;
-    while i < count {
-        let opened = open_item(groups, starts, group, i, at, places, total);
-        let Opened::Slots(k) = opened else {
-            return opened;
-        };
-        total = k;
+    for i in 0..count {
+        total = open_item(groups, starts, group, i, at, places, total)?;
         at += item_size(groups, at);
-        i += 1;
     }
-    Opened::Slots(total)
+    Ok(total)
 }
 
 // The slots of a group's item, which begins at a place.
@@ -68,7 +71,7 @@ fn open_item(
     at: usize,
     places: &mut [usize],
     n: usize,
-) -> Opened
+) -> Result<usize, Full>
     requires { (JudgedFine groups.now starts.now × ((group < length starts.now) × (judge_item groups.now group item at ≡ fine)))
         × ((512 ≤ length places.old) × (n ≤ 512)) }
     ensures answer { result ≡ counted n (open_item (open_below (group_of groups.now) group) (item_of groups.now group item at)) }
@@ -81,7 +84,7 @@ fn open_item(
     }
     if n < MOST_SLOTS {
         places[n] = at;
-        return Opened::Slots(n + 1);
+        return Ok(n + 1);
     }
-    Opened::Full(group, item)
+    Err(Full { group, item })
 }

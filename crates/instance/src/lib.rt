@@ -1,5 +1,5 @@
 // Instances of a Tlas: judged, appended one by one, and those of a build's slots.
-#![tactic(auto)]
+#![tactic(auto, unfolding(ray_tracing::specs::Guard::refuse))]
 
 ghost use Rattle.std.specs.Prelude.{◌≡◌, cond, ℕ, ◌+◌, ◌*◌, ◌/◌, ◌≤◌, ◌<◌, length};
 ghost use Rattle.std.proofs.lemmas.List.Edits.{sets};
@@ -7,15 +7,15 @@ ghost use Rattle.ray_tracing.specs.Layout.{size};
 ghost use Rattle.ray_tracing.specs.Records.{field_at};
 ghost use Rattle.ray_tracing.specs.Causes.{bare};
 ghost use Rattle.ray_tracing.specs.Mentions.{◌else◌, blas_mention, blas_of};
-ghost use Rattle.ray_tracing.specs.Code.{mention_of, instance_cause, instance_verdict, verdict_of};
+ghost use Rattle.ray_tracing.specs.Code.{mention_of, instance_cause};
 ghost use Rattle.ray_tracing.specs.Instances.{returns_vertices, instance_rule, named_tlas_rule, appended_of, Appends};
 ghost use Rattle.ray_tracing.specs.Instances.{present_at, present_of, slot_mention, slot_rule, slot_bytes, slots_bytes};
 ghost use Rattle.instance.specs.Writable.{Writable};
 
 use instance_bytes::{instance_from, put_instance};
 use ray_tracing::{
-    Appended, BLAS_SIZE, Blas, BlasId, BuildAccelerationStructureError as Error, CheckedInstance,
-    INSTANCE_SIZE, Mentioned, SLOT_SIZE, TLAS_SIZE, Tlas, TlasId, TlasInstance, Verdict,
+    BLAS_SIZE, Blas, BlasId, BuildAccelerationStructureError as Error, INSTANCE_SIZE, OutsideTable,
+    SLOT_SIZE, TLAS_SIZE, Tlas, TlasId, TlasInstance,
 };
 use records::{blas_at, blas_mention, handle_of, tlas_at, tlas_mention};
 use wire::{u8_at, u16_at, u32_at};
@@ -35,55 +35,47 @@ fn returns_vertices(flags: u8) -> bool
 }
 
 // The step of builds and appends: 34, 35.
-fn check_instance(tlas: Tlas, blas: Blas, custom_data: u32) -> CheckedInstance
+fn check_instance(tlas: Tlas, blas: Blas, custom_data: u32) -> Result<(), Error>
     ensures { instance_cause result ≡ bare (instance_rule tlas blas custom_data) }
 {
     if CUSTOM_LIMIT <= custom_data {
-        return CheckedInstance::Refused(Error::TlasInvalidCustomIndex);
+        return Err(Error::TlasInvalidCustomIndex);
     }
-    if returns_vertices(tlas.flags) {
-        if returns_vertices(blas.flags) {
-            return CheckedInstance::Fine;
-        }
-        return CheckedInstance::Refused(Error::TlasDependentMissingVertexReturn);
+    if returns_vertices(tlas.flags) && !returns_vertices(blas.flags) {
+        return Err(Error::TlasDependentMissingVertexReturn);
     }
-    CheckedInstance::Fine
+    Ok(())
 }
 
 // 6, 34, 35.
-pub fn check_named(tlas: Tlas, blases: &[u8], blas: BlasId, custom_data: u32) -> CheckedInstance
+pub fn check_named(tlas: Tlas, blases: &[u8], blas: BlasId, custom_data: u32) -> Result<(), Error>
     ensures { instance_cause result
         ≡ bare
         (blas_mention blases.now blas.0 else instance_rule tlas (blas_of blases.now blas.0) custom_data) }
 {
-    let id = blas.0 as usize;
-    let mentioned = blas_mention(blases, blas);
-    match mentioned {
-        Mentioned::InvalidResource => { CheckedInstance::Refused(Error::InvalidResource) }
-        Mentioned::Inside => check_instance(tlas, blas_at(blases, id * BLAS_SIZE), custom_data),
-    }
+    blas_mention(blases, blas)?;
+    let at = blas.0 as usize * BLAS_SIZE;
+    check_instance(tlas, blas_at(blases, at), custom_data)
 }
 
 // 6 for the Tlas before those.
+#[tactic(auto, unfolding(ray_tracing::specs::Guard::refuse, ray_tracing::specs::Instances::named_tlas_rule))]
 fn check_named_tlas(
     tlases: &[u8],
     blases: &[u8],
     tlas: TlasId,
     instance: TlasInstance,
-) -> CheckedInstance
+) -> Result<(), Error>
     ensures { instance_cause result ≡ bare (named_tlas_rule tlases.now blases.now tlas instance) }
 {
-    let id = tlas.0 as usize;
-    let mentioned = tlas_mention(tlases, tlas);
-    match mentioned {
-        Mentioned::InvalidResource => { CheckedInstance::Refused(Error::InvalidResource) }
-        Mentioned::Inside => check_named(
-            tlas_at(tlases, id * TLAS_SIZE),
-            blases,
-            instance.blas,
-            instance.custom_data,
-        ),
-    }
+    tlas_mention(tlases, tlas)?;
+    let at = tlas.0 as usize * TLAS_SIZE;
+    check_named(
+        tlas_at(tlases, at),
+        blases,
+        instance.blas,
+        instance.custom_data,
+    )
 }
 
 pub fn address_of(blases: &[u8], blas: BlasId) -> u64
@@ -101,54 +93,36 @@ pub fn append_instance(
     instance: TlasInstance,
     instances: &mut [u8],
     used: usize,
-) -> Appended
+) -> Result<usize, Error>
     ensures { Appends tlases.now blases.now tlas instance instances.old used
         (appended_of result) instances.new }
 {
-    let checked = check_named_tlas(tlases, blases, tlas, instance);
-    match checked {
-        CheckedInstance::Refused(e) => Appended::Refused(e),
-        CheckedInstance::Fine => {
-            if used <= instances.len() {
-                if INSTANCE_SIZE <= instances.len() - used {
-                    let end = used + INSTANCE_SIZE;
-                    let address = address_of(blases, instance.blas);
-                    put_instance(instances, used, instance, address);
-                    return Appended::InUse(end);
-                }
-            }
-            Appended::Refused(Error::OutputTooShort)
-        }
+    check_named_tlas(tlases, blases, tlas, instance)?;
+    if instances.len() < used || instances.len() - used < INSTANCE_SIZE {
+        return Err(Error::OutputTooShort);
     }
-}
-
-// What judging an instance finds, at E.
-pub fn instance_verdict(c: CheckedInstance, e: usize, f: usize) -> Verdict
-    ensures { verdict_of result ≡ instance_verdict e f c }
-{
-    match c {
-        CheckedInstance::Fine => Verdict::Passed,
-        CheckedInstance::Refused(cause) => Verdict::Refused(cause, e, f),
-    }
+    let address = address_of(blases, instance.blas);
+    put_instance(instances, used, instance, address);
+    Ok(used + INSTANCE_SIZE)
 }
 
 // What a build judges of the slot at a place: 6 for its Blas, and later 34, 35.
-pub fn slot_mention(blases: &[u8], slots: &[u8], at: usize) -> Mentioned
+pub fn slot_mention(blases: &[u8], slots: &[u8], at: usize) -> Result<(), OutsideTable>
     requires { at + size 8 ≤ length slots.now }
     ensures { mention_of result ≡ slot_mention blases.now slots.now at }
 {
     if u8_at(slots, at) == 0 {
-        return Mentioned::Inside;
+        return Ok(());
     }
     blas_mention(blases, BlasId(u16_at(slots, at + SLOT_BLAS)))
 }
 
-pub fn check_slot(tlas: Tlas, blases: &[u8], slots: &[u8], at: usize) -> CheckedInstance
+pub fn check_slot(tlas: Tlas, blases: &[u8], slots: &[u8], at: usize) -> Result<(), Error>
     requires { (at + size 8 ≤ length slots.now) × (slot_mention blases.now slots.now at ≡ 0) }
     ensures { instance_cause result ≡ bare (slot_rule tlas blases.now slots.now at) }
 {
     if u8_at(slots, at) == 0 {
-        return CheckedInstance::Fine;
+        return Ok(());
     }
     let id = u16_at(slots, at + SLOT_BLAS) as usize;
     check_instance(
@@ -159,6 +133,7 @@ pub fn check_slot(tlas: Tlas, blases: &[u8], slots: &[u8], at: usize) -> Checked
 }
 
 // Writes what the slot at a place writes, from index end on, and returns the index past it.
+#[tactic(auto, using(crate::proofs::Slots::one))]
 fn put_slot(blases: &[u8], slots: &[u8], at: usize, instances: &mut [u8], end: usize) -> usize
     requires size_in_bounds { (at + size 8 ≤ length slots.now)
         × (end + length (slot_bytes blases.now slots.now at) ≤ length instances.old) }
@@ -178,6 +153,7 @@ fn put_slot(blases: &[u8], slots: &[u8], at: usize, instances: &mut [u8], end: u
 }
 
 // Writes what count slots from slot first on write, from index at on, and returns the index past it.
+#[tactic(auto, using(crate::proofs::Slots::more))]
 pub fn put_slots(
     blases: &[u8],
     slots: &[u8],
@@ -199,31 +175,23 @@ pub fn put_slots(
         ≡ sets instances.old at (slots_bytes blases.now slots.now first count) }
 {
     let mut end = at;
-    let mut i: usize = 0;
-    while i < count {
+    for i in 0..count {
         end = put_slot(blases, slots, (first + i) * SLOT_SIZE, instances, end);
-        i += 1;
     }
     end
 }
 
-fn presence(slots: &[u8], at: usize) -> usize
-    requires { at + size 8 ≤ length slots.now }
-    ensures { (result ≡ cond (present_at slots.now at) 1 0) × (result ≤ 1) }
-{
-    if u8_at(slots, at) == 0 { 0 } else { 1 }
-}
-
 // How many of count slots from slot first on are present.
+#[tactic(auto, using(crate::proofs::Slots::more), unfolding(ray_tracing::specs::Instances::present_of))]
 pub fn present_of(slots: &[u8], first: usize, count: usize) -> usize
     requires { (first + count) * size 8 ≤ length slots.now }
     ensures { (result ≡ present_of slots.now first count) × (result ≤ count) }
 {
-    let mut n: usize = 0;
-    let mut i: usize = 0;
-    while i < count {
-        n = n + presence(slots, (first + i) * SLOT_SIZE);
-        i += 1;
+    let mut n = 0;
+    for i in 0..count {
+        if u8_at(slots, (first + i) * SLOT_SIZE) != 0 {
+            n += 1;
+        }
     }
     n
 }

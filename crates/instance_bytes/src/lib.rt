@@ -28,7 +28,7 @@ const MASK_UNIT: u32 = 16777216;
 // Where an instance record's fields stand, past its transform; custom data and mask are one u32.
 const RECORD_CUSTOM_DATA: usize = 48;
 
-// A number, and the pattern that it was read from where that is a NaN's, else 0.
+// A number, and the pattern that it was read from where that is a NaN's, else 0: the form that `TlasInstance` has, which stays.
 #[derive(Clone, Copy)]
 pub struct Number {
     pub value: f32,
@@ -47,7 +47,7 @@ fn number_of_bits(bits: u32) -> Number
 {
     if is_nan_bits(bits) {
         Number {
-            value: 0.0 / 0.0,
+            value: f32::NAN,
             nan_bits: bits,
         }
     } else {
@@ -61,14 +61,12 @@ fn number_of_bits(bits: u32) -> Number
 fn bits_of_number(value: f32, nan_bits: u32) -> u32
     ensures { result ≡ bits_of value nan_bits }
 {
-    if value != value {
-        if is_nan_bits(nan_bits) {
-            nan_bits
-        } else {
-            0x7fc0_0000
-        }
+    if !value.is_nan() {
+        value.to_bits()
+    } else if is_nan_bits(nan_bits) {
+        nan_bits
     } else {
-        f32::to_bits(value)
+        0x7fc0_0000
     }
 }
 
@@ -86,12 +84,10 @@ fn numbers_at(s: &[u8], at: usize) -> Numbers
 {
     let mut values = [0.0f32; 12];
     let mut nan_bits = [0u32; 12];
-    let mut k = 0;
-    while k < 12 {
+    for k in 0..12 {
         let n = number_of_bits(u32_at(s, at + 4 * k));
         values[k] = n.value;
         nan_bits[k] = n.nan_bits;
-        k += 1;
     }
     Numbers { values, nan_bits }
 }
@@ -135,10 +131,8 @@ fn put_transform(out: &mut [u8], at: usize, transform: [f32; 12], nan_bits: [u32
     requires { at + 48 ≤ length out.old }
     ensures { out.new ≡ sets out.old at (words (patterns transform nan_bits)) }
 {
-    let mut k = 0;
-    while k < 12 {
+    for k in 0..12 {
         put_u32(out, at + 4 * k, bits_of_number(transform[k], nan_bits[k]));
-        k += 1;
     }
 }
 
@@ -147,7 +141,7 @@ fn put_tail(out: &mut [u8], at: usize, custom_data: u32, mask: u8, address: u64)
     requires { (at + 16 ≤ length out.old) × (custom_data < 2 ^ 24) }
     ensures { out.new ≡ sets out.old at (tail_bytes custom_data mask address) }
 {
-    put_u32(out, at, custom_data + MASK_UNIT * (mask as u32));
+    put_u32(out, at, custom_data + MASK_UNIT * u32::from(mask));
     put_u32(out, at + 4, 0);
     put_u64(out, at + 8, address);
 }

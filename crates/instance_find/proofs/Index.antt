@@ -5,15 +5,17 @@ use native.Mathlib.Numerals.{sub-one}
 use native.Mathlib.Omega.{arith}
 use mathlib.Core.Path.{◌≡◌, refl, sym, ap, ◌∙◌}
 use mathlib.Core.Bool.{Bool, true, false, cond}
-use mathlib.Core.Option.{none, some}
+use mathlib.Core.Option.{none}
+use Rattle.std.specs.Prelude.{Some, None, is_some}
+use Rattle.std.specs.Prelude as rust
 use mathlib.Core.List.{List, [], ◌∷◌, ◌++◌, append-nil}
 use lib.ListN.{length, get_or, set, replicate, get_or-replicate}
 use lib.Seq.{get_or-set_same, get_or-set_other}
 use lib.Dec.{ltb, eqb}
-use borrow.Author.Tests.{lt-ltb, le-ltb, eq-eqb, ne_eqb, eqb-true, eqb-false}
+use borrow.Author.Tests.{eq-eqb, ne_eqb, eqb-true, eqb-false}
 use Rattle.ray_tracing.specs.Mentions.{blas_of}
 use Rattle.ray_tracing.specs.ReadInstances.{standing_among, standing_in, only_one, blas_with}
-use Rattle.instance_find.specs.Index.{blases_lent, bucket, bucket_of, last_in, IndexedUpTo, candidate, one_found}
+use Rattle.instance_find.specs.Index.{blases_lent, bucket, bucket_of, last_in, IndexedUpTo, candidate}
 
 by_bool : (P : Bool → Type 0) (b : Bool) → (b ≡ true → P true) → (b ≡ false → P false) → P b
 by_bool P true x y = x refl
@@ -119,13 +121,13 @@ module _ (blases : List ℕ) (k : ℕ) (lasts befores : List ℕ) (h : IndexedUp
 
 -- ---- the search for an address, from the last Blas that may stand there to the first
 
--- what was found, by how many Blases there are up to it
-abbrev pub found : ℕ → List ℕ
-found zero = []
-found (suc k) = k ∷ []
+-- the Blas that was found, if one was
+abbrev pub found : rust.Option ℕ → List ℕ
+found None = []
+found (Some k) = k ∷ []
 
 -- of the first n the last may stand there; of those past them one does, or none
-pub record Searched (blases : List ℕ) (address one n : ℕ) : Type 0 where
+pub record Searched (blases : List ℕ) (address : ℕ) (one : rust.Option ℕ) (n : ℕ) : Type 0 where
   pub within : n ≤ blases_lent blases
   pub may : candidate blases (bucket address) n ≡ n
   pub all : standing_in blases address ≡ standing_among blases address n ++ found one
@@ -134,19 +136,6 @@ several : (l : List ℕ) (k j : ℕ) → only_one ((l ++ k ∷ []) ++ j ∷ []) 
 several [] k j = refl
 several (x ∷ []) k j = refl
 several (x ∷ y ∷ l) k j = refl
-
-only_found : (one : ℕ) → only_one (found one) ≡ one_found one
-only_found zero = refl
-only_found (suc k) = refl
-
--- what an id can name
-pub found_past : (n : ℕ) → 65536 < n → none ≡ one_found n
-found_past zero h = absurd (omega arith)
-found_past (suc k) h = rw (le-ltb k 65536 (omega arith))
-
-pub found_named : (n : ℕ) → (n ≡ 0 → ⊥) → n ≤ 65536 → some (n - 1) ≡ one_found n
-found_named zero h l = absurd (h refl)
-found_named (suc k) h l = rw (sub-one, lt-ltb k 65536 (omega arith))
 
 module _ (blases : List ℕ) (address : ℕ) where
   abbrev at : ℕ → Type 0
@@ -177,7 +166,7 @@ module _ (blases : List ℕ) (address : ℕ) where
   standing-candidate : (n : ℕ) → up_to n ≡ up_to (candidate blases (bucket address) n)
   standing-candidate n = by_many blases (bucket address) (λ (m : ℕ). up_to n ≡ up_to m) n refl (standing_last n)
 
-  pub searched_start : Searched blases address 0 (candidate blases (bucket address) (blases_lent blases))
+  pub searched_start : Searched blases address None (candidate blases (bucket address) (blases_lent blases))
   searched_start =
       record {
         within = candidate_within blases (bucket address) (blases_lent blases);
@@ -187,7 +176,7 @@ module _ (blases : List ℕ) (address : ℕ) where
 
   -- past Blas k, by what is known of it
   onward :
-      (one more k : ℕ)
+      (one more : rust.Option ℕ) (k : ℕ)
       → Searched blases address one (suc k)
       → up_to (suc k) ++ found one ≡ up_to k ++ found more
       → Searched blases address more (candidate blases (bucket_of blases k) k)
@@ -200,18 +189,18 @@ module _ (blases : List ℕ) (address : ℕ) where
       }
 
   pub searched_first :
-      (one n : ℕ)
+      (one : rust.Option ℕ) (n : ℕ)
       → Searched blases address one n
       → 0 < n
       → at (n - 1)
-      → one ≤ 0
-      → Searched blases address n (candidate blases (bucket_of blases (n - 1)) (n - 1))
+      → is_some one ≡ false
+      → Searched blases address (Some (n - 1)) (candidate blases (bucket_of blases (n - 1)) (n - 1))
   searched_first one zero h l e z = absurd (omega arith)
-  searched_first zero (suc k) h l e z = rw sub-one (onward 0 (suc k) k h (append-nil _ ∙ standing_here k (rw sub-one at e)))
-  searched_first (suc j) (suc k) h l e z = absurd (omega arith)
+  searched_first None (suc k) h l e z = rw sub-one (onward None (Some k) k h (append-nil _ ∙ standing_here k (rw sub-one at e)))
+  searched_first (Some j) (suc k) h l e z = absurd cc
 
   pub searched_other :
-      (one n : ℕ)
+      (one : rust.Option ℕ) (n : ℕ)
       → Searched blases address one n
       → 0 < n
       → (at (n - 1) → ⊥)
@@ -220,14 +209,18 @@ module _ (blases : List ℕ) (address : ℕ) where
   searched_other one (suc k) h l e = rw sub-one (onward one one k h (ap (λ (l : List ℕ). l ++ found one) (standing_not_here k (rw sub-one at e))))
 
   -- a second one is one too many
-  pub searched_second : (one n : ℕ) → Searched blases address one n → 0 < n → at (n - 1) → 0 < one → none ≡ blas_with blases address
+  pub searched_second :
+      (one : rust.Option ℕ) (n : ℕ) → Searched blases address one n → 0 < n → at (n - 1) → is_some one ≡ true → none ≡ blas_with blases address
   unfolding blas_with
   searched_second one zero h l e z = absurd (omega arith)
-  searched_second zero (suc k) h l e z = absurd (omega arith)
-  searched_second (suc j) (suc k) h l e z =
+  searched_second None (suc k) h l e z = absurd cc
+  searched_second (Some j) (suc k) h l e z =
       sym (ap only_one (h.all ∙ ap (λ (m : List ℕ). m ++ j ∷ []) (standing_here k (rw sub-one at e))) ∙ several (up_to k) k j)
 
-  pub searched_end : (one n : ℕ) → Searched blases address one n → n ≤ 0 → one_found one ≡ blas_with blases address
+  pub searched_end : (one : rust.Option ℕ) (n : ℕ) → Searched blases address one n → n ≤ 0 → only_one (found one) ≡ blas_with blases address
   unfolding blas_with standing_among
-  searched_end one zero h l = sym (ap only_one h.all ∙ only_found one)
+  searched_end one zero h l = sym (ap only_one h.all)
   searched_end one (suc k) h l = absurd (omega arith)
+
+-- what closes the goals of the search
+pub ruleset searching = (candidate_within, searched_start, searched_first, searched_other, searched_second, searched_end)

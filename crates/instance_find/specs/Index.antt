@@ -1,10 +1,10 @@
 -- An index of Blases by their addresses: in each bucket one leads to the last before it. Assumes nothing.
-use Rattle.std.specs.Prelude.{ℕ, zero, suc, ◌/◌, ◌%◌, ◌^◌, ◌≤◌, ◌<◌, ◌≡◌, cond, List, length, get_or, ltb, eqb}
+use Rattle.std.specs.Prelude.{ℕ, zero, suc, ◌/◌, ◌%◌, ◌^◌, ◌≤◌, ◌<◌, ◌≡◌, cond, List, length, get_or, ltb, eqb, Some, None}
+use Rattle.std.specs.Prelude as rust
 use Rattle.std.proofs.Math.Option.{Option, none, some}
 use Rattle.ray_tracing.specs.Layout.{size}
 use Rattle.ray_tracing.specs.Mentions.{blas_of}
-use Rattle.instance_find.specs.declared.Found.{Found}
-use Rattle.instance_find.specs.declared.Found.TheVariants as found
+use Rattle.ray_tracing.specs.declared.BlasId.{BlasId}
 
 abbrev pub blases_lent : List ℕ → ℕ
 blases_lent blases = length blases / size 2
@@ -37,11 +37,6 @@ candidate blases b n = cond (ltb 128 (blases_lent blases)) n (last_in blases b n
 
 -- what is found
 
-abbrev pub found_of : Found → Option ℕ
-found_of (found.One b) = some b.0
-found_of found.NoneOrSeveral = none
-
--- how many there are up to the one that was found, 0 where there is none
-abbrev pub one_found : ℕ → Option ℕ
-one_found zero = none
-one_found (suc k) = cond (ltb k (2 ^ 16)) (some k) none
+abbrev pub found_of : rust.Option BlasId → Option ℕ
+found_of None = none
+found_of (Some b) = some b.0

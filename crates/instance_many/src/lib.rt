@@ -13,11 +13,11 @@ ghost use Rattle.ray_tracing.specs.AppendMany.{lent_size, lent_count, lent_insta
 ghost use Rattle.ray_tracing.specs.AppendMany.{appended_many_of, AppendsMany};
 ghost use Rattle.instance.specs.Writable.{Writable};
 
-use instance::{address_of, check_named, instance_verdict};
+use instance::{address_of, check_named};
 use instance_bytes::{instance_from, put_instance};
 use ray_tracing::{
-    AppendedMany, BlasId, BuildAccelerationStructureError as Error, INSTANCE_SIZE, LENT_SIZE,
-    Mentioned, TLAS_SIZE, Tlas, TlasId, Verdict, first,
+    BlasId, BuildAccelerationStructureError as Error, BuildRefusal, INSTANCE_SIZE, LENT_SIZE,
+    TLAS_SIZE, Tlas, TlasId,
 };
 use records::{tlas_at, tlas_mention};
 use wire::{u16_at, u32_at};
@@ -26,75 +26,80 @@ use wire::{u16_at, u32_at};
 const CUSTOM_DATA: usize = 2;
 
 // The k-th: 6, 34, 35.
-fn judge_instance(tlas: Tlas, blases: &[u8], items: &[u8], k: usize) -> Verdict
+#[tactic(auto, unfolding(ray_tracing::specs::Instances::instance_from))]
+fn judge_instance(tlas: Tlas, blases: &[u8], items: &[u8], k: usize) -> Result<(), BuildRefusal>
     requires { k * lent_size + lent_size ≤ length items.now }
     ensures { verdict_of result ≡ at_e 0 k (named_instance_rule tlas blases.now (lent_instance items.now k)) }
 {
     let at = k * LENT_SIZE;
     let blas = BlasId(u16_at(items, at));
-    instance_verdict(
-        check_named(tlas, blases, blas, u32_at(items, at + CUSTOM_DATA)),
-        0,
-        k,
-    )
+    check_named(tlas, blases, blas, u32_at(items, at + CUSTOM_DATA)).map_err(|error| BuildRefusal {
+        error,
+        e0: 0,
+        e1: k,
+    })
 }
 
 // Each in turn.
-fn judge_instances(tlas: Tlas, blases: &[u8], items: &[u8]) -> Verdict
+#[tactic(auto, using(ray_tracing::proofs::Verdicts::each))]
+fn judge_instances(tlas: Tlas, blases: &[u8], items: &[u8]) -> Result<(), BuildRefusal>
     ensures { verdict_of result
         ≡ first_of (λ k. at_e 0 k (named_instance_rule tlas blases.now (lent_instance items.now k)))
         0 (lent_count items.now) }
 {
-    let count = items.len() / LENT_SIZE;
-    let mut k: usize = 0;
-    while k < count {
-        let v = judge_instance(tlas, blases, items, k);
-        if let Verdict::Refused(_, _, _) = v {
-            return v;
-        }
-        k += 1;
+    for k in 0..items.len() / LENT_SIZE {
+        judge_instance(tlas, blases, items, k)?;
     }
-    Verdict::Passed
+    Ok(())
 }
 
 // The Tlas, and then each.
-fn judge_named(tlases: &[u8], blases: &[u8], tlas: TlasId, items: &[u8]) -> Verdict
+#[tactic(auto, unfolding(ray_tracing::specs::Guard::refuse))]
+fn judge_named(tlases: &[u8], blases: &[u8], tlas: TlasId, items: &[u8]) -> Result<(), BuildRefusal>
     ensures { verdict_of result
         ≡ (at_e 0 0 (tlas_mention tlases.now tlas.0)
         or first_of (judge_instance tlases.now blases.now tlas items.now)
         0 (lent_count items.now)) }
 {
-    let id = tlas.0 as usize;
-    let mentioned = tlas_mention(tlases, tlas);
-    match mentioned {
-        Mentioned::InvalidResource => Verdict::Refused(Error::InvalidResource, 0, 0),
-        Mentioned::Inside => judge_instances(tlas_at(tlases, id * TLAS_SIZE), blases, items),
-    }
+    tlas_mention(tlases, tlas).map_err(|e| BuildRefusal {
+        error: Error::from(e),
+        e0: 0,
+        e1: 0,
+    })?;
+    let at = tlas.0 as usize * TLAS_SIZE;
+    judge_instances(tlas_at(tlases, at), blases, items)
 }
 
 // 5: of so many bytes a part of one at the end.
-fn judge_part(n: usize) -> Verdict
+fn judge_part(n: usize) -> Result<(), BuildRefusal>
     ensures { verdict_of result ≡ on (neb (n % lent_size) 0) (refused 0 (n / lent_size) (bare 5)) }
 {
-    if n % LENT_SIZE == 0 {
-        return Verdict::Passed;
+    if !n.is_multiple_of(LENT_SIZE) {
+        return Err(BuildRefusal {
+            error: Error::InvalidValue,
+            e0: 0,
+            e1: n / LENT_SIZE,
+        });
     }
-    Verdict::Refused(Error::InvalidValue, 0, n / LENT_SIZE)
+    Ok(())
 }
 
-// 39: no room for so many.
-fn judge_room(room: usize, used: usize, count: usize) -> Verdict
+// 39: no room for so many. A refusal of another type than `instance_read`'s, of another length.
+fn judge_room(room: usize, used: usize, count: usize) -> Result<(), BuildRefusal>
     ensures { verdict_of result ≡ on (ltb room (used + 64 * count)) (refused 0 0 (bare 39)) }
 {
-    if used <= room {
-        if count <= (room - used) / INSTANCE_SIZE {
-            return Verdict::Passed;
-        }
+    if room < used || (room - used) / INSTANCE_SIZE < count {
+        return Err(BuildRefusal {
+            error: Error::OutputTooShort,
+            e0: 0,
+            e1: 0,
+        });
     }
-    Verdict::Refused(Error::OutputTooShort, 0, 0)
+    Ok(())
 }
 
 // All that is judged before anything is written.
+#[tactic(auto, unfolding(ray_tracing::specs::AppendMany::judge_many))]
 fn judge_many(
     tlases: &[u8],
     blases: &[u8],
@@ -102,13 +107,12 @@ fn judge_many(
     items: &[u8],
     room: usize,
     used: usize,
-) -> Verdict
+) -> Result<(), BuildRefusal>
     ensures { verdict_of result ≡ judge_many tlases.now blases.now tlas items.now room used }
 {
-    let named = judge_named(tlases, blases, tlas, items);
-    let part = judge_part(items.len());
-    let short = judge_room(room, used, items.len() / LENT_SIZE);
-    first(named, first(part, short))
+    judge_named(tlases, blases, tlas, items)?;
+    judge_part(items.len())?;
+    judge_room(room, used, items.len() / LENT_SIZE)
 }
 
 // Writes the k-th from index end on: what a slot of a build writes, in a copy of its own, since called by both it is not inlined.
@@ -135,10 +139,8 @@ fn put_many(blases: &[u8], items: &[u8], count: usize, instances: &mut [u8], at:
     ensures { instances.new
         ≡ sets instances.old at (many_bytes blases.now items.now count) }
 {
-    let mut i: usize = 0;
-    while i < count {
+    for i in 0..count {
         put_lent(blases, items, i, instances, at + i * INSTANCE_SIZE);
-        i += 1;
     }
 }
 
@@ -150,18 +152,12 @@ pub fn append_instances(
     items: &[u8],
     instances: &mut [u8],
     used: usize,
-) -> AppendedMany
+) -> Result<usize, BuildRefusal>
     ensures { AppendsMany tlases.now blases.now tlas items.now instances.old used
         (appended_many_of result) instances.new }
 {
+    judge_many(tlases, blases, tlas, items, instances.len(), used)?;
     let count = items.len() / LENT_SIZE;
-    let judged = judge_many(tlases, blases, tlas, items, instances.len(), used);
-    match judged {
-        Verdict::Refused(cause, e, f) => AppendedMany::Refused(cause, e, f),
-        Verdict::Passed => {
-            let end = used + count * INSTANCE_SIZE;
-            put_many(blases, items, count, instances, used);
-            AppendedMany::InUse(end)
-        }
-    }
+    put_many(blases, items, count, instances, used);
+    Ok(used + count * INSTANCE_SIZE)
 }

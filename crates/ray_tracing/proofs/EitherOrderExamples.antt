@@ -5,13 +5,13 @@ use native.Mathlib.Omega.{arith}
 use mathlib.Core.Path.{◌≡◌, refl, sym, ap}
 use mathlib.Core.Bool.{Bool, true, false, ◌&&◌, ◌||◌, not, and-false}
 use mathlib.Core.List.{List, [], ◌∷◌, ◌++◌, map}
+use Rattle.std.specs.Prelude.{Result, Ok, Err}
 use lib.ListN.{length, replicate}
 use lib.Dec.{eqb, ltb, lit<}
 use borrow.Author.Tests.{eqb-true}
 use Rattle.wire.specs.Wire.{le_at, le_bytes}
 use Rattle.ray_tracing.specs.declared.Validated.{Validated}
-use Rattle.ray_tracing.specs.declared.Submitted.{Submitted}
-use Rattle.ray_tracing.specs.declared.Submitted.TheVariants as submitted
+use Rattle.ray_tracing.specs.declared.SubmissionRefusal.{SubmissionRefusal}
 use Rattle.ray_tracing.specs.declared.ValidateAsActionsError.TheVariants as error
 use Rattle.ray_tracing.specs.Guard.{refuse}
 use Rattle.ray_tracing.specs.Reading.{judge_fields, judge_records, judge_lent}
@@ -126,8 +126,8 @@ newer_44 = record { number = 44; action = 4; first = 1; second = 0 }
 abbrev all-accepted : Numbers
 all-accepted = record { number = 0; action = 0; first = 0; second = 0 }
 
-abbrev refused_44 : ℕ → Submitted
-refused_44 n = submitted.Refused (error.BlasNewerThenTlas (record { 0 = 1 }) (record { 0 = 0 })) 4 n
+abbrev refused_44 : ℕ → Result ℕ SubmissionRefusal
+refused_44 n = Err (record { error = (error.BlasNewerThenTlas (record { 0 = 1 }) (record { 0 = 0 })); action = 4; counter = n })
 
 -- what is left of the first list alone and of the second alone, and of both in each order
 abbrev left_1 : Buffers
@@ -142,8 +142,8 @@ left_12 = tables 10 6 5 9 5 9 (1 ∷ 2 ∷ []) (0 ∷ 3 ∷ [])
 abbrev left_21 : Buffers
 left_21 = tables 8 10 9 7 9 7 (1 ∷ 2 ∷ []) (0 ∷ 3 ∷ [])
 
-submits : Submits 5 start list_1 (refused_44 7) left_1 × (Submits 7 left_1 list_2 (submitted.Accepted 11) left_12
-    × (Submits 5 start list_2 (submitted.Accepted 9) left_2 × Submits 9 left_2 list_1 (refused_44 11) left_21))
+submits : Submits 5 start list_1 (refused_44 7) left_1 × (Submits 7 left_1 list_2 (Ok 11) left_12
+    × (Submits 5 start list_2 (Ok 9) left_2 × Submits 9 left_2 list_1 (refused_44 11) left_21))
 unfolding judge judge_lent judge_records judge_fields judge_lists le_at le_bytes blas_in tlas_in list_in refuse packages_at packages_lent action decode_cells before built_blas built_blases built_tlas build_tlases act step run submission
 submits = (refl, (refl, (refl, refl)))
 
@@ -157,7 +157,7 @@ first_then_second =
       first = shows newer_44 7 left_1;
       second = shows all-accepted 11 left_12;
       call_first = record { answer = refused_44 7; called = submits.0; numbers = refl; counter = refl };
-      call_second = record { answer = submitted.Accepted 11; called = submits.1.0; numbers = refl; counter = refl };
+      call_second = record { answer = Ok 11; called = submits.1.0; numbers = refl; counter = refl };
     }
 
 abbrev second_then_first : InOrder SubmitShows 5 start list_2 list_1
@@ -165,7 +165,7 @@ second_then_first =
     record {
       first = shows all-accepted 9 left_2;
       second = shows newer_44 11 left_21;
-      call_first = record { answer = submitted.Accepted 9; called = submits.1.1.0; numbers = refl; counter = refl };
+      call_first = record { answer = Ok 9; called = submits.1.1.0; numbers = refl; counter = refl };
       call_second = record { answer = refused_44 11; called = submits.1.1.1; numbers = refl; counter = refl };
     }
 

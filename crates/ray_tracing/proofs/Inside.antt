@@ -16,7 +16,7 @@ use Rattle.ray_tracing.specs.Reading as reading
 use Rattle.ray_tracing.specs.Plan.{Tables, passed, on, first_of, first_drawing, table_of, records_in, entry_of, geometry_of, package_of, geometry_count, slot_count, slot_present, slot_blas, by_section, judge_lent_section, judge_tables, optional_mention, geometry_ids, entry_ids, slot_ids, package_ids, judge_ids}
 use Rattle.ray_tracing.proofs.Reading.{or_fine, on_fine}
 use Rattle.ray_tracing.proofs.Mentions.{mention-inside}
-use Rattle.ray_tracing.proofs.Verdicts.{or-passed, on-passed, on_true, none-at_e, none-cond, each-passed, each-drawing}
+use Rattle.ray_tracing.proofs.Verdicts.{or-passed, on-passed, on_true, none-at_e, none-cond, each-passed, each-drawing, from_start_drawing, found-drawing, onward-drawing, ended-drawing}
 
 -- the geometries that the entries before entry i draw, and the slots that the packages before package p draw
 unfoldable pub drawn_before : Tables → ℕ → ℕ
@@ -275,3 +275,6 @@ inside x t v =
       slots = λ p h. rw (tables-slots x t) at (slots_within x (records_in x 7) p h);
       slot-blas = λ p j h k s. mention-inside 28 x.blases _ (none-cond _ _ (none-at_e p j _ (slot-passed x v p j h k)) s);
     }
+
+-- what closes the goals of a loop over many that draw in turn, to the first that is refused
+pub ruleset drawing = (from_start_drawing, found-drawing, onward-drawing, ended-drawing, drawn-none, slots-none)

@@ -7,11 +7,12 @@ use mathlib.Core.Path.{◌≡◌, refl, sym, ap, ◌∙◌}
 use mathlib.Core.Bool.{Bool, true, false, ◌&&◌, ◌||◌, cond, false≢true}
 use mathlib.Core.List.{List, [], ◌∷◌, ◌++◌}
 use mathlib.Core.Logic.{◌↔◌}
+use Rattle.std.specs.Prelude.{Result}
 use lib.ListN.{length}
 use lib.Dec.{eqb, ltb, leb, lit<}
 use borrow.Author.Tests.{eqb-true, ne_eqb, leb-true}
 use Rattle.ray_tracing.specs.declared.Sheet.{Sheet}
-use Rattle.ray_tracing.specs.declared.Submitted.{Submitted}
+use Rattle.ray_tracing.specs.declared.SubmissionRefusal.{SubmissionRefusal}
 use Rattle.ray_tracing.specs.declared.CommandIndices.{CommandIndices}
 use Rattle.ray_tracing.specs.declared.Validated.{Validated}
 use Rattle.ray_tracing.specs.Layout.{layout, size}
@@ -51,7 +52,7 @@ pub decoded_as_builds : (p : Piece) → decode (with_builds p) ≡ decode p
 decoded_as_builds p = cells-as_builds p.lists p.actions
 
 -- so of any call: on the same start, with Builds in place of the marks, the same answer, and the same is left
-pub submits_as_builds : (n : ℕ) (x y : Buffers) (p : Piece) (r : Submitted) → Submits n x p r y ↔ Submits n x (with_builds p) r y
+pub submits_as_builds : (n : ℕ) (x y : Buffers) (p : Piece) (r : Result ℕ SubmissionRefusal) → Submits n x p r y ↔ Submits n x (with_builds p) r y
 submits_as_builds n x y p r = (λ c. rw (decoded_as_builds p) c, λ c. rw (decoded_as_builds p) at c)
 
 pub validates_as_builds :

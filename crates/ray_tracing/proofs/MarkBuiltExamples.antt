@@ -5,13 +5,13 @@ use native.Mathlib.Omega.{arith}
 use mathlib.Core.Path.{◌≡◌, refl, sym, ap}
 use mathlib.Core.Bool.{Bool, true, false}
 use mathlib.Core.List.{List, [], ◌∷◌, ◌++◌, flatten}
+use Rattle.std.specs.Prelude.{Ok, Err}
 use lib.ListN.{get_or}
 use lib.Dec.{lit<}
 use Rattle.wire.specs.Wire.{le_at, le_bytes}
 use Rattle.ray_tracing.specs.declared.Version.TheVariants as version
 use Rattle.ray_tracing.specs.declared.CommandIndices.{CommandIndices}
 use Rattle.ray_tracing.specs.declared.Validated.{Validated}
-use Rattle.ray_tracing.specs.declared.Submitted.TheVariants as submitted
 use Rattle.ray_tracing.specs.declared.ValidateAsActionsError.TheVariants as error
 use Rattle.ray_tracing.specs.Guard.{refuse}
 use Rattle.ray_tracing.specs.Reading as reading
@@ -126,20 +126,20 @@ demand : Demand-3 SubmitShows 5 (buffers start)
 demand = demand_3_of_submit 5 (buffers start) (omega arith) (examples.all).0
 
 call_7 : SubmitShows 5 (buffers start) (piece marked_7 lists_7) shown_7
-call_7 = record { answer = submitted.Accepted 6; called = sym all.0; numbers = refl; counter = refl }
+call_7 = record { answer = Ok 6; called = sym all.0; numbers = refl; counter = refl }
 
 call_44 : SubmitShows 6 (buffers then_7) (piece second_7 []) shown_44
 call_44 =
     record {
-      answer = submitted.Refused (error.BlasNewerThenTlas (record { 0 = 0 }) (record { 0 = 0 })) 1 7;
+      answer = Err (record { error = (error.BlasNewerThenTlas (record { 0 = 0 }) (record { 0 = 0 })); action = 1; counter = 7 });
       called = sym all.1.0;
       numbers = refl;
       counter = refl;
     }
 
 -- with a Build in its place it is example 7's own call
-build_7 : Submits 5 (buffers start) (piece first_7 lists_7) (submitted.Accepted 6) (buffers then_7)
-build_7 = (submits_as_builds 5 (buffers start) (buffers then_7) (piece marked_7 lists_7) (submitted.Accepted 6)).0 (sym all.0)
+build_7 : Submits 5 (buffers start) (piece first_7 lists_7) (Ok 6) (buffers then_7)
+build_7 = (submits_as_builds 5 (buffers start) (buffers then_7) (piece marked_7 lists_7) (Ok 6)).0 (sym all.0)
 
 -- cut in two calls: the uncut list's refusal, 44 at action 3, and all that it leaves
 cuts_7 : shown (refused 3 (cause 44 0 0 0) leaving end_7) ≡ shown (submission start (decode (piece (marked_7 ++ second_7) lists_7)))
@@ -180,7 +180,7 @@ fresh_7 : Each (λ (b : ℕ). Each (λ (e : Built). among b e.blases ≡ false) 
 unfolding packages_at packages_lent action decode_cells history allowed acts tell_action tell_actions blas_in tlas_in list_in le_at le_bytes
 fresh_7 =
     (demand.uses [] 5 (buffers start) no_call (piece marked_after lists-after) (shown (accepted leaving after_7))
-    (record { answer = submitted.Accepted 7; called = sym all.1.1.1.1.1.1.1.1.1.1.1.1.0; numbers = refl; counter = refl }) 2 0 refl (lit< tt)).fresh none-numbered refl
+    (record { answer = Ok 7; called = sym all.1.1.1.1.1.1.1.1.1.1.1.1.0; numbers = refl; counter = refl }) 2 0 refl (lit< tt)).fresh none-numbered refl
 
 -- the tables after both calls are the history's
 tables_7 : ByHistory start (remarked ∷ built_7 ∷ []) end_7

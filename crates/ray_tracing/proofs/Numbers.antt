@@ -11,28 +11,15 @@ use Rattle.ray_tracing.specs.Instances.{nan_of, bits_of}
 
 -- ---- a NaN is what differs from itself
 
-pub nan_is : (x : Float) → ne x x ≡ true → x ≡ nan
-nan_is x e = differs_from_itself x (subst T (sym e) tt)
-
-pub not_nan : (x : Float) → ne x x ≡ false → is_nan x ≡ false
-unfolding is_nan
-not_nan nan e = absurd (true≢false (sym nan_differs ∙ e))
-not_nan (inf s) e = refl
-not_nan (fin s m e) d = refl
-
 is_nan_nan : is_nan nan ≡ true
 unfolding is_nan
 is_nan_nan = refl
 
-is_nan_is : (x : Float) → is_nan x ≡ true → x ≡ nan
+pub is_nan_is : (x : Float) → is_nan x ≡ true → x ≡ nan
 unfolding is_nan
 is_nan_is nan e = refl
 is_nan_is (inf s) e = absurd (false≢true e)
 is_nan_is (fin s m k) e = absurd (false≢true e)
-
-pub zero_over_zero : div binary32 (of_bits binary32 0) (of_bits binary32 0) ≡ nan
-unfolding div of_bits of_fields odd
-zero_over_zero = refl
 
 quiet : to_bits binary32 nan ≡ 2143289344
 unfolding to_bits

@@ -79,16 +79,6 @@ module _ (c : Seen) (fs : List Field) (s : List ℕ) where
   record_fine (suc n) p h e = rw (e, sub-one (suc n))
   record_fine zero p h e = absurd (omega arith)
 
-  pub record_refused :
-      (j : Judged) (n p number place : ℕ)
-      → 0 < n
-      → j ≡ judge_fields c s p fs
-      → j ≡ refused number place
-      → j ≡ judge_records c fs s p n
-  unfolding judge_records
-  record_refused j (suc n) p number place h e f = rw (← e, f)
-  record_refused j zero p number place h e f = absurd (omega arith)
-
 -- ---- drawn records
 
 pub one_less : (n w : ℕ) → 0 < n → n * w ≡ w + (n - 1) * w
@@ -111,16 +101,6 @@ module _ (fs : List Field) (t s : List ℕ) where
     unfolding judge_drawn
     drawn-fine (suc n) p h f = rw (f, sub-one (suc n))
     drawn-fine zero p h f = absurd (omega arith)
-
-    pub drawn-refused :
-        (j : Judged) (n p number place : ℕ)
-        → 0 < n
-        → j ≡ judge_records (begin (size 5) t (of_boxes t q)) fs s p (drawn_count t q)
-        → j ≡ refused number place
-        → j ≡ judge_drawn fs t q s p n
-    unfolding judge_drawn
-    drawn-refused j (suc n) p number place h f g = rw (← f, g)
-    drawn-refused j zero p number place h f g = absurd (omega arith)
 
   pub drawn_whole :
       (n q p : ℕ) → p ≤ length s → judge_drawn fs t q s p n ≡ fine → p + sum_of_counts t (size 5) (q + 3) n * total fs ≤ length s

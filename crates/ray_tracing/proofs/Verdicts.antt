@@ -149,3 +149,6 @@ module _ (f : ℕ → ℕ → Verdict) (count : ℕ → ℕ) where
 
       pub onward-drawing : f i g ≡ passed → first_drawing f count (i + 1) (g + count i) (n - (i + 1)) ≡ whole
       onward-drawing p = rw p at turn-drawing
+
+-- what closes the goals of a loop to the first of many that is refused
+pub ruleset each = (found, onward, ended)

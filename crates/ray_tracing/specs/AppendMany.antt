@@ -1,10 +1,9 @@
 -- Many instances of one Tlas in one call: "Let one call take many instances of one Tlas and append all their bytes." Assumes nothing.
-use Rattle.std.specs.Prelude.{ℕ, zero, suc, ◌+◌, ◌*◌, ◌/◌, ◌%◌, ◌≡◌, List, [], ◌++◌, length, ltb}
+use Rattle.std.specs.Prelude.{ℕ, zero, suc, ◌+◌, ◌*◌, ◌/◌, ◌%◌, ◌≡◌, List, [], ◌++◌, length, ltb, Result, Ok, Err}
 use Rattle.std.proofs.lemmas.List.Edits.{sets}
 use Rattle.ray_tracing.specs.declared.TlasId.{TlasId}
 use Rattle.ray_tracing.specs.declared.TlasInstance.{TlasInstance}
-use Rattle.ray_tracing.specs.declared.AppendedMany.{AppendedMany}
-use Rattle.ray_tracing.specs.declared.AppendedMany.TheVariants as appended-many
+use Rattle.ray_tracing.specs.declared.BuildRefusal.{BuildRefusal}
 use Rattle.ray_tracing.specs.Guard.{neb}
 use Rattle.ray_tracing.specs.Layout.{total}
 use Rattle.ray_tracing.specs.Causes.{Cause, bare, build_cause}
@@ -66,9 +65,9 @@ pub data AppendingMany : Type 0 where
   all_in_use : ℕ → AppendingMany
   none_appended : ℕ → ℕ → Cause → AppendingMany
 
-abbrev pub appended_many_of : AppendedMany → AppendingMany
-appended_many_of (appended-many.InUse n) = all_in_use n
-appended_many_of (appended-many.Refused c e f) = none_appended e f (build_cause c)
+abbrev pub appended_many_of : Result ℕ BuildRefusal → AppendingMany
+appended_many_of (Ok n) = all_in_use n
+appended_many_of (Err r) = none_appended r.e0 r.e1 (build_cause r.error)
 
 abbrev pub many_outcome : Verdict → ℕ → AppendingMany
 many_outcome passed n = all_in_use n

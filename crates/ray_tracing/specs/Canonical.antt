@@ -1,12 +1,12 @@
 -- The canonical writer: "Add a writer that turns what the reader accepted into a sheet: unused fields zero, declared geometries by Blas
 -- number and, within a Blas, in their old order." Assumes nothing.
-use Rattle.std.specs.Prelude.{ℕ, zero, suc, ◌+◌, ◌-◌, ◌/◌, ◌≡◌, cond, length, take, drop, replicate, ltb, eqb}
+use Rattle.std.specs.Prelude.{ℕ, zero, suc, ◌+◌, ◌-◌, ◌/◌, ◌≡◌, cond, length, take, drop, replicate, ltb, eqb, Result, Ok, Err}
 use mathlib.Core.List.{List, [], ◌∷◌, ◌++◌, map, flatten}
 use Rattle.std.proofs.lemmas.List.Edits.{sets}
 use Rattle.wire.specs.Wire.{le_at, le_bytes}
 use Rattle.ray_tracing.specs.declared.Version.{Version}
-use Rattle.ray_tracing.specs.declared.SheetWritten.{SheetWritten}
-use Rattle.ray_tracing.specs.declared.SheetWritten.TheVariants as sheet-written
+use Rattle.ray_tracing.specs.declared.WriteSheetError.{WriteSheetError}
+use Rattle.ray_tracing.specs.declared.WriteSheetError.TheVariants as write-sheet
 use Rattle.ray_tracing.specs.Layout.{Seen, Field, version_number, layout_in, size_in}
 use Rattle.ray_tracing.specs.Reading.{Reading, accepted, rejected, read_sheet, version_in, table}
 use Rattle.ray_tracing.specs.Causes.{sheet_number}
@@ -67,10 +67,10 @@ pub data Writing : Type 0 where
   unwritten : ℕ → ℕ → Writing
 
 -- what the code's answer says
-abbrev pub writing_of : SheetWritten → Writing
-writing_of (sheet-written.Written n) = wrote n
-writing_of (sheet-written.Refused e p) = unwritten (sheet_number e) p
-writing_of sheet-written.TooShort = unwritten 39 0
+abbrev pub writing_of : Result ℕ WriteSheetError → Writing
+writing_of (Ok n) = wrote n
+writing_of (Err (write-sheet.Malformed r)) = unwritten (sheet_number r.error) r.place
+writing_of (Err write-sheet.OutputTooShort) = unwritten 39 0
 
 -- "Errors: the reader's first, then 39"
 abbrev pub after_reading : Reading → Writing → Writing

@@ -1,9 +1,9 @@
 -- "Causes and what they cost": the number of each cause, and what is returned with it, for each answer of the code. Assumes nothing.
-use Rattle.std.specs.Prelude.{ℕ, Bool, true, false}
+use Rattle.std.specs.Prelude.{ℕ, Bool, true, false, Result, Ok, Err}
 use Rattle.ray_tracing.specs.declared.SheetError.{SheetError}
 use Rattle.ray_tracing.specs.declared.SheetError.TheVariants as sheet
-use Rattle.ray_tracing.specs.declared.SheetRead.{SheetRead}
-use Rattle.ray_tracing.specs.declared.SheetRead.TheVariants as sheet-read
+use Rattle.ray_tracing.specs.declared.SheetRefusal.{SheetRefusal}
+use Rattle.ray_tracing.specs.declared.Sheet.{Sheet}
 use Rattle.ray_tracing.specs.declared.Resource.{Resource}
 use Rattle.ray_tracing.specs.declared.Resource.TheVariants as resource
 use Rattle.ray_tracing.specs.declared.RunningTotal.{RunningTotal}
@@ -24,9 +24,9 @@ sheet_number sheet.TrailingBytes = 3
 sheet_number sheet.TooMany = 4
 sheet_number sheet.InvalidValue = 5
 
-abbrev pub reading_of : SheetRead → reading.Reading
-reading_of (sheet-read.Accepted s) = reading.accepted s
-reading_of (sheet-read.Refused e p) = reading.rejected (sheet_number e) p
+abbrev pub reading_of : Result Sheet SheetRefusal → reading.Reading
+reading_of (Ok s) = reading.accepted s
+reading_of (Err r) = reading.rejected (sheet_number r.error) r.place
 
 -- a cause's number and its figures; "A refusal's unused figures are 0"
 pub record Cause : Type 0 where

@@ -1,7 +1,7 @@
 -- Demand 3, whole, as a caller sees it: by the numbers that calls answer, and the counter and the buffers that they leave. Assumes nothing.
-use Rattle.std.specs.Prelude.{ℕ, suc, ◌+◌, ◌*◌, ◌^◌, ◌≤◌, ◌<◌, ◌≡◌, ◌↔◌, Bool, true, false, ◌||◌, cond, length, get_or, take, leb, eqb}
+use Rattle.std.specs.Prelude.{ℕ, suc, ◌+◌, ◌*◌, ◌^◌, ◌≤◌, ◌<◌, ◌≡◌, ◌↔◌, Bool, true, false, ◌||◌, cond, length, get_or, take, leb, eqb, Result}
 use mathlib.Core.List.{List, [], ◌∷◌, map, flatten}
-use Rattle.ray_tracing.specs.declared.Submitted.{Submitted}
+use Rattle.ray_tracing.specs.declared.SubmissionRefusal.{SubmissionRefusal}
 use Rattle.ray_tracing.specs.declared.CommandIndices.{CommandIndices}
 use Rattle.ray_tracing.specs.declared.Validated.{Validated}
 use Rattle.ray_tracing.specs.Submission.{Lent, Piece, answer_numbers, submission, decode, use_tlas, malformed, blas_count, tlas_count, blas, tlas, dependencies_of, Buffers, lent_with, answer_of, counter_of, Submits, Shown, shown, numbers_of, Validates}
@@ -15,7 +15,7 @@ Routine = ℕ → Buffers → Piece → Shown → Type 0
 
 -- `submit`: its answer has the counter in it
 pub record SubmitShows (n : ℕ) (x : Buffers) (p : Piece) (s : Shown) : Type 0 where
-  pub answer : Submitted
+  pub answer : Result ℕ SubmissionRefusal
   pub called : Submits n x p answer s.left
   pub numbers : s.numbers ≡ answer_numbers (answer_of answer)
   pub counter : s.counter ≡ counter_of answer

@@ -1,10 +1,10 @@
 -- The converters: "Add a converter both ways: 1 to 2 always, 2 to 1 only where every box offset and first vertex fits." Assumes nothing.
-use Rattle.std.specs.Prelude.{ℕ, zero, suc, ◌+◌, ◌-◌, ◌/◌, ◌^◌, ◌≡◌, not, cond, List, [], ◌∷◌, ◌++◌, length, take, drop, ltb, eqb}
+use Rattle.std.specs.Prelude.{ℕ, zero, suc, ◌+◌, ◌-◌, ◌/◌, ◌^◌, ◌≡◌, not, cond, List, [], ◌∷◌, ◌++◌, length, take, drop, ltb, eqb, Result, Ok, Err}
 use Rattle.wire.specs.Wire.{le_at, le_bytes}
 use Rattle.ray_tracing.specs.declared.Version.{Version}
 use Rattle.ray_tracing.specs.declared.Version.TheVariants as version
-use Rattle.ray_tracing.specs.declared.SheetConverted.{SheetConverted}
-use Rattle.ray_tracing.specs.declared.SheetConverted.TheVariants as sheet-converted
+use Rattle.ray_tracing.specs.declared.ConvertSheetError.{ConvertSheetError}
+use Rattle.ray_tracing.specs.declared.ConvertSheetError.TheVariants as convert-sheet
 use Rattle.ray_tracing.specs.Layout.{version_number, offset_width, geometries, size_in, place_of}
 use Rattle.ray_tracing.specs.Reading.{Judged, fine, refused, judged_when, ◌and_next◌, past, from, table, read_sheet}
 use Rattle.ray_tracing.specs.Causes.{sheet_number}
@@ -70,11 +70,11 @@ convert_rule w s room =
     (cond (ltb room (length (converted w s))) (unwritten 39 0) (wrote (length (converted w s))))))
 
 -- what the code's answer says
-abbrev pub converting_of : SheetConverted → Writing
-converting_of (sheet-converted.Written n) = wrote n
-converting_of (sheet-converted.Refused e p) = unwritten (sheet_number e) p
-converting_of (sheet-converted.TooFar p) = unwritten 47 p
-converting_of sheet-converted.TooShort = unwritten 39 0
+abbrev pub converting_of : Result ℕ ConvertSheetError → Writing
+converting_of (Ok n) = wrote n
+converting_of (Err (convert-sheet.Malformed r)) = unwritten (sheet_number r.error) r.place
+converting_of (Err (convert-sheet.OffsetTooFar p)) = unwritten 47 p
+converting_of (Err convert-sheet.OutputTooShort) = unwritten 39 0
 
 -- a call that is to write the sheet s as one of version w into the bytes out: it answered a, by what it says of that, and left p
 pub record ConvertsAs {A : Type 0} (says : Writing → A) (w : Version) (s out : List ℕ) (a : A) (p : List ℕ) : Type 0 where

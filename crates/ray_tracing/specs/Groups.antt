@@ -1,10 +1,11 @@
 -- Groups of slots: "Add the row card: a u16 group count, at most 64, then per group a u16 item count and its items." Assumes nothing.
-use Rattle.std.specs.Prelude.{ℕ, zero, suc, ◌+◌, ◌-◌, ◌≡◌, Bool, true, false, not, cond, length, take, drop, ltb, eqb}
+use Rattle.std.specs.Prelude.{ℕ, zero, suc, ◌+◌, ◌-◌, ◌≡◌, Bool, true, false, not, cond, length, take, drop, ltb, eqb, Result, Ok, Err}
 use mathlib.Core.List.{List, [], ◌∷◌, ◌++◌, map, flatten}
 use Rattle.std.proofs.lemmas.List.Edits.{sets}
 use Rattle.wire.specs.Wire.{le_at}
-use Rattle.ray_tracing.specs.declared.GroupsOpened.{GroupsOpened}
-use Rattle.ray_tracing.specs.declared.GroupsOpened.TheVariants as groups-opened
+use Rattle.ray_tracing.specs.declared.GroupsError.TheVariants as groups-error
+use Rattle.ray_tracing.specs.declared.OpenGroupsError.{OpenGroupsError}
+use Rattle.ray_tracing.specs.declared.OpenGroupsError.TheVariants as open-groups
 use Rattle.ray_tracing.specs.Layout.{Field, layout, total}
 use Rattle.ray_tracing.specs.Reading as reading
 use Rattle.ray_tracing.specs.Causes.{sheet_number}
@@ -170,12 +171,12 @@ pub data Opening : Type 0 where
   unopened : ℕ → ℕ → ℕ → ℕ → Opening
 
 -- what the code's answer says
-abbrev pub opening_of : GroupsOpened → Opening
-opening_of (groups-opened.Written n) = opened n
-opening_of (groups-opened.Refused e p) = unopened (sheet_number e) p 0 0
-opening_of (groups-opened.InvalidGroup g i) = unopened 45 0 g i
-opening_of (groups-opened.TooManySlots g i) = unopened 46 0 g i
-opening_of groups-opened.TooShort = unopened 39 0 0 0
+abbrev pub opening_of : Result ℕ OpenGroupsError → Opening
+opening_of (Ok n) = opened n
+opening_of (Err (open-groups.Invalid (groups-error.Malformed r))) = unopened (sheet_number r.error) r.place 0 0
+opening_of (Err (open-groups.Invalid (groups-error.InvalidGroup g i))) = unopened 45 0 g i
+opening_of (Err (open-groups.TooManySlots g i)) = unopened 46 0 g i
+opening_of (Err open-groups.OutputTooShort) = unopened 39 0 0 0
 
 abbrev pub after_judging : Finding → ℕ → Opening
 after_judging fine n = opened n

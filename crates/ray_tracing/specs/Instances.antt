@@ -1,5 +1,5 @@
 -- Instances: their 64 bytes, how they stand in slots, what is judged of one, and what appending it does. Assumes nothing.
-use Rattle.std.specs.Prelude.{ℕ, zero, suc, ◌+◌, ◌*◌, ◌/◌, ◌%◌, ◌^◌, ◌≡◌, Bool, not, ◌&&◌, cond, List, [], ◌∷◌, ◌++◌, map, length, get_or, drop, leb, ltb, eqb, Float}
+use Rattle.std.specs.Prelude.{ℕ, zero, suc, ◌+◌, ◌*◌, ◌/◌, ◌%◌, ◌^◌, ◌≡◌, Bool, not, ◌&&◌, cond, List, [], ◌∷◌, ◌++◌, map, length, get_or, drop, leb, ltb, eqb, Float, Result, Ok, Err}
 use Rattle.std.proofs.lemmas.List.Edits.{sets}
 use Rattle.std.specs.Float.{binary32}
 use Rattle.std.specs.Float.Ieee.{of_bits, to_bits, nan_bits as is_nan_bits, is_nan}
@@ -8,8 +8,7 @@ use Rattle.ray_tracing.specs.declared.Blas.{Blas}
 use Rattle.ray_tracing.specs.declared.Tlas.{Tlas}
 use Rattle.ray_tracing.specs.declared.TlasId.{TlasId}
 use Rattle.ray_tracing.specs.declared.TlasInstance.{TlasInstance}
-use Rattle.ray_tracing.specs.declared.Appended.{Appended}
-use Rattle.ray_tracing.specs.declared.Appended.TheVariants as appended
+use Rattle.ray_tracing.specs.declared.BuildAccelerationStructureError.{BuildAccelerationStructureError}
 use Rattle.ray_tracing.specs.Guard.{refuse, neb}
 use Rattle.ray_tracing.specs.Layout.{Field, slots, size, place_of, width_of}
 use Rattle.ray_tracing.specs.Records.{field_at}
@@ -194,9 +193,9 @@ pub data Appending : Type 0 where
   in_use : ℕ → Appending
   refused : Cause → Appending
 
-abbrev pub appended_of : Appended → Appending
-appended_of (appended.InUse n) = in_use n
-appended_of (appended.Refused e) = refused (build_cause e)
+abbrev pub appended_of : Result ℕ BuildAccelerationStructureError → Appending
+appended_of (Ok n) = in_use n
+appended_of (Err e) = refused (build_cause e)
 
 -- 6 for the Tlas, then 6, 34, 35 for the instance
 unfoldable pub named_tlas_rule : List ℕ → List ℕ → TlasId → TlasInstance → ℕ

@@ -1,26 +1,17 @@
 -- Internal: a build's tables as a function that is lent only some of them sees them, what it is not lent being empty, and of version 1 where
 -- it is lent no geometries; how many records they have; and what judging ids shows of them. No entry point's contract rests on these. Assumes nothing.
 use Rattle.std.specs.Prelude.{ℕ, ◌/◌, ◌<◌, List, [], length}
-use Rattle.ray_tracing.specs.declared.Version.{Version}
 use Rattle.ray_tracing.specs.declared.Version.TheVariants as version
 use Rattle.ray_tracing.specs.Layout.{size}
 use Rattle.ray_tracing.specs.Plan.{Tables, tables_of, entry_of, package_of}
 
--- what judging entries reads
-abbrev pub for_entries : Version → List ℕ → List ℕ → List ℕ → List ℕ → List ℕ → Tables
-for_entries v buffers blases declared entries geometries = tables_of v 0 buffers blases declared [] entries geometries [] []
-
--- what judging packages reads
-abbrev pub for_packages : List ℕ → List ℕ → List ℕ → List ℕ → Tables
-for_packages blases tlases packages slots = tables_of version.One 0 [] blases [] tlases [] [] packages slots
-
 -- what writing one output reads
 
 abbrev pub of_entries : List ℕ → List ℕ → Tables
-of_entries blases entries = for_entries version.One [] blases [] entries []
+of_entries blases entries = tables_of version.One 0 [] blases [] [] entries [] [] []
 
 abbrev pub of_packages : List ℕ → List ℕ → List ℕ → Tables
-of_packages tlases packages slots = for_packages [] tlases packages slots
+of_packages tlases packages slots = tables_of version.One 0 [] [] [] tlases [] [] packages slots
 
 -- what an action's cells look at
 abbrev pub listing : List ℕ → List ℕ → Tables

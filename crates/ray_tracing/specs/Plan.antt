@@ -1,5 +1,5 @@
 -- "Building, in order": the first refusal with E and its figures, or the plan and the recorded action. Assumes nothing.
-use Rattle.std.specs.Prelude.{ℕ, zero, suc, ◌+◌, ◌-◌, ◌*◌, ◌/◌, ◌%◌, ◌^◌, max, ◌≡◌, Bool, true, false, ◌||◌, cond, List, [], ◌∷◌, ◌++◌, length, get_or, leb, ltb, eqb}
+use Rattle.std.specs.Prelude.{ℕ, zero, suc, ◌+◌, ◌-◌, ◌*◌, ◌/◌, ◌%◌, ◌^◌, max, ◌≡◌, Bool, true, false, ◌||◌, cond, List, [], ◌∷◌, ◌++◌, length, get_or, leb, ltb, eqb, Result, Ok, Err}
 use Rattle.std.proofs.Math.Option.{Option, none, some}
 use Rattle.std.proofs.lemmas.List.Edits.{sets}
 use Rattle.scratch.specs.Scratch.{add_rounded}
@@ -11,6 +11,9 @@ use Rattle.ray_tracing.specs.declared.BlasBuildEntry.{BlasBuildEntry}
 use Rattle.ray_tracing.specs.declared.BlasGeometry.{BlasGeometry}
 use Rattle.ray_tracing.specs.declared.TlasPackage.{TlasPackage}
 use Rattle.ray_tracing.specs.declared.Written.{Written}
+use Rattle.ray_tracing.specs.declared.BuildTables.{BuildTables}
+use Rattle.ray_tracing.specs.declared.BuildOutputs.{BuildOutputs}
+use Rattle.ray_tracing.specs.declared.BuildRefusal.{BuildRefusal}
 use Rattle.ray_tracing.specs.declared.Built.{Built}
 use Rattle.ray_tracing.specs.declared.Built.TheVariants as built
 use Rattle.ray_tracing.specs.Layout.{layout_in, size, size_in}
@@ -52,6 +55,12 @@ tables_of v alignment buffers blases declared tlases entries geometries packages
       packages = packages;
       slots = slots;
     }
+
+-- as a call of the code is lent them
+abbrev pub lent_tables : BuildTables → Tables
+lent_tables t =
+    tables_of t.version t.alignment t.buffers.now t.blases.now t.declared.now t.tlases.now t.entries.now t.geometries.now
+    t.packages.now t.slots.now
 
 -- those of a sheet, by section
 abbrev pub sheet_tables : Version → ℕ → (ℕ → List ℕ) → Tables
@@ -336,6 +345,23 @@ outputs_of blas-offsets tlas-offsets staging-ranges instances init-ranges compac
       lists = lists;
     }
 
+-- as a call of the code is lent them
+abbrev pub lent_outputs : BuildOutputs → Outputs
+lent_outputs o =
+    outputs_of o.blas_offsets.now o.tlas_offsets.now o.staging_ranges.now o.instances.now o.init_ranges.now o.compactable.now
+    o.lists.now
+
+-- they are still the slices that the caller lent
+abbrev pub SameOutputs : BuildOutputs → BuildOutputs → Type 0
+SameOutputs o p =
+    (p.blas_offsets.ghost_name ≡ o.blas_offsets.ghost_name)
+    × (p.tlas_offsets.ghost_name ≡ o.tlas_offsets.ghost_name)
+    × (p.staging_ranges.ghost_name ≡ o.staging_ranges.ghost_name)
+    × (p.instances.ghost_name ≡ o.instances.ghost_name)
+    × (p.init_ranges.ghost_name ≡ o.init_ranges.ghost_name)
+    × (p.compactable.ghost_name ≡ o.compactable.ghost_name)
+    × (p.lists.ghost_name ≡ o.lists.ghost_name)
+
 -- "Package ranges follow on without gap or overlap, 64 bytes per present slot": of n packages from p on, whose slots stand from s on
 unfoldable pub staging_from : Tables → ℕ → ℕ → ℕ → ℕ → List ℕ
 staging_from x start p s zero = []
@@ -429,10 +455,10 @@ pub data Building : Type 0 where
   not_built : ℕ → ℕ → Cause → Building
 
 -- what the code's answer says
-abbrev pub building_of : Built → Building
-building_of (built.Recorded size w) = recorded size w
-building_of (built.NothingRecorded n) = nothing-recorded n
-building_of (built.Refused c e f) = not_built e f (build_cause c)
+abbrev pub building_of : Result Built BuildRefusal → Building
+building_of (Ok (built.Recorded size w)) = recorded size w
+building_of (Ok (built.NothingRecorded n)) = nothing-recorded n
+building_of (Err r) = not_built r.e0 r.e1 (build_cause r.error)
 
 abbrev pub unless : Verdict → Building → Building
 unless passed a = a

@@ -1,6 +1,6 @@
 -- Instances read back: "Add a reader from VK_KHR_acceleration_structure's 64-byte records to instances, finding the Blas by its address."
 -- Assumes nothing.
-use Rattle.std.specs.Prelude.{ℕ, zero, suc, ◌+◌, ◌*◌, ◌/◌, ◌%◌, ◌^◌, ◌≡◌, Bool, true, false, cond, List, [], ◌∷◌, ◌++◌, map, length, ltb, eqb}
+use Rattle.std.specs.Prelude.{ℕ, zero, suc, ◌+◌, ◌*◌, ◌/◌, ◌%◌, ◌^◌, ◌≡◌, Bool, true, false, cond, List, [], ◌∷◌, ◌++◌, map, length, ltb, eqb, Result, Ok, Err}
 use Rattle.std.proofs.Math.Option.{Option, none, some}
 use Rattle.std.proofs.lemmas.List.Edits.{sets}
 use Rattle.std.specs.Float.{binary32}
@@ -8,8 +8,7 @@ use Rattle.std.specs.Float.Ieee.{of_bits}
 use Rattle.wire.specs.Wire.{le_at, le_bytes}
 use Rattle.ray_tracing.specs.declared.BlasId.{BlasId}
 use Rattle.ray_tracing.specs.declared.TlasInstance.{TlasInstance}
-use Rattle.ray_tracing.specs.declared.InstancesRead.{InstancesRead}
-use Rattle.ray_tracing.specs.declared.InstancesRead.TheVariants as instances-read
+use Rattle.ray_tracing.specs.declared.ReadInstancesRefusal.{ReadInstancesRefusal}
 use Rattle.ray_tracing.specs.Guard.{refuse, neb}
 use Rattle.ray_tracing.specs.Layout.{size, width_of}
 use Rattle.ray_tracing.specs.Causes.{bare, instances_number}
@@ -123,9 +122,9 @@ pub data ReadingInstances : Type 0 where
   all_read : ℕ → ReadingInstances
   none_read : ℕ → ℕ → ℕ → ReadingInstances
 
-abbrev pub instances_read_of : InstancesRead → ReadingInstances
-instances_read_of (instances-read.Written n) = all_read n
-instances_read_of (instances-read.Refused e k) = none_read (instances_number e) k 0
+abbrev pub instances_read_of : Result ℕ ReadInstancesRefusal → ReadingInstances
+instances_read_of (Ok n) = all_read n
+instances_read_of (Err r) = none_read (instances_number r.error) r.index 0
 
 abbrev pub read_outcome : Verdict → ℕ → ReadingInstances
 read_outcome passed n = all_read n

@@ -1,13 +1,12 @@
 -- The lines of the sheet program: "Fields: `build` number, E, three figures; `scratch` size; per entry `blas` id, offset; per package
 -- `tlas` id, offset, range start and end; `submit` number, action, two figures; `next` counter." Assumes nothing.
-use Rattle.std.specs.Prelude.{ℕ, zero, suc, ◌+◌, ◌*◌, ◌/◌, ◌%◌, ◌≡◌, Bool, true, false, ◌||◌, cond, List, [], ◌∷◌, ◌++◌, length, get_or, replicate, ltb, eqb}
+use Rattle.std.specs.Prelude.{ℕ, zero, suc, ◌+◌, ◌*◌, ◌/◌, ◌%◌, ◌≡◌, Bool, true, false, ◌||◌, cond, List, [], ◌∷◌, ◌++◌, length, get_or, replicate, ltb, eqb, Result, Ok, Err}
 use Prim.Native.Char.{code}
 use Prim.Native.String as string
 use Prim.Native.String.{String}
 use Rattle.std.proofs.lemmas.List.Edits.{sets}
 use Rattle.ray_tracing.specs.declared.Sheet.{Sheet}
-use Rattle.ray_tracing.specs.declared.Reported.{Reported}
-use Rattle.ray_tracing.specs.declared.Reported.TheVariants as reported
+use Rattle.ray_tracing.specs.declared.OutputTooShort.{OutputTooShort}
 use Rattle.ray_tracing.specs.Layout.{size}
 use Rattle.ray_tracing.specs.Reading.{Reading, accepted, rejected, read_sheet, table}
 use Rattle.ray_tracing.specs.Records.{field_at}
@@ -176,9 +175,9 @@ abbrev pub reporting : ℕ → ℕ → Reporting
 reporting n w = record { number = n; written = w }
 
 -- what the code's answer says
-abbrev pub reported_of : Reported → Reporting
-reported_of (reported.Written n) = reporting 0 n
-reported_of reported.TooShort = reporting 39 0
+abbrev pub reported_of : Result ℕ OutputTooShort → Reporting
+reported_of (Ok n) = reporting 0 n
+reported_of (Err _) = reporting 39 0
 
 -- a text written into so much room, and the bytes after it: a refusal writes nothing; past the text the bytes are kept
 unfoldable pub text_rule : List ℕ → ℕ → Reporting

@@ -1,12 +1,12 @@
 -- "Submission", in the paper's order and words, over what is lent, as bytes and cells: an outcome tells each of them. Assumes nothing.
-use Rattle.std.specs.Prelude.{ℕ, zero, suc, ◌+◌, ◌*◌, ◌/◌, ◌%◌, ◌^◌, ◌≡◌, Bool, true, false, ◌&&◌, cond, List, [], ◌∷◌, length, take, drop, get_or, set, ltb, leb, eqb}
+use Rattle.std.specs.Prelude.{ℕ, zero, suc, ◌+◌, ◌*◌, ◌/◌, ◌%◌, ◌^◌, ◌≡◌, Bool, true, false, ◌&&◌, cond, List, [], ◌∷◌, length, take, drop, get_or, set, ltb, leb, eqb, Result, Ok, Err}
 use Rattle.std.proofs.Math.Option.{Option, none, some}
 use Rattle.std.proofs.lemmas.List.Edits.{sets}
 use Rattle.wire.specs.Wire.{le_bytes}
 use Rattle.ray_tracing.specs.declared.Blas.{Blas}
 use Rattle.ray_tracing.specs.declared.Tlas.{Tlas}
-use Rattle.ray_tracing.specs.declared.Submitted.{Submitted}
-use Rattle.ray_tracing.specs.declared.Submitted.TheVariants as submitted
+use Rattle.ray_tracing.specs.declared.SubmissionRefusal.{SubmissionRefusal}
+use Rattle.ray_tracing.specs.declared.SubmissionBuffers.{SubmissionBuffers}
 use Rattle.ray_tracing.specs.declared.CommandIndices.{CommandIndices}
 use Rattle.ray_tracing.specs.declared.Validated.{Validated}
 use Rattle.ray_tracing.specs.Layout.{layout, size, place_of, width_of}
@@ -372,24 +372,36 @@ pub record Buffers : Type 0 where
 abbrev pub buffers_of : List ℕ → List ℕ → List ℕ → List ℕ → Buffers
 buffers_of b t c d = record { blases = b; tlases = t; dependency_counts = c; dependencies = d }
 
+-- as a call of the code is lent them
+abbrev pub lent_buffers : SubmissionBuffers → Buffers
+lent_buffers s = buffers_of s.blases.now s.tlases.now s.dependency_counts.now s.dependencies.now
+
+-- they are still the slices that the caller lent
+abbrev pub SameBuffers : SubmissionBuffers → SubmissionBuffers → Type 0
+SameBuffers s t =
+    (t.blases.ghost_name ≡ s.blases.ghost_name)
+    × (t.tlases.ghost_name ≡ s.tlases.ghost_name)
+    × (t.dependency_counts.ghost_name ≡ s.dependency_counts.ghost_name)
+    × (t.dependencies.ghost_name ≡ s.dependencies.ghost_name)
+
 abbrev pub lent_with : ℕ → Buffers → Lent
 lent_with n x = lent_of n x.blases x.tlases x.dependency_counts x.dependencies
 
 -- what the answer of `submit` says, and the counter in it
-abbrev pub answer_of : Submitted → Answer
-answer_of (submitted.Accepted n) = accepted
-answer_of (submitted.Refused e i n) = refused i (submission_cause e)
+abbrev pub answer_of : Result ℕ SubmissionRefusal → Answer
+answer_of (Ok n) = accepted
+answer_of (Err r) = refused r.action (submission_cause r.error)
 
-abbrev pub counter_of : Submitted → ℕ
-counter_of (submitted.Accepted n) = n
-counter_of (submitted.Refused e i n) = n
+abbrev pub counter_of : Result ℕ SubmissionRefusal → ℕ
+counter_of (Ok n) = n
+counter_of (Err r) = r.counter
 
 -- with what is left
-abbrev pub outcome_of : Submitted → List ℕ → List ℕ → List ℕ → List ℕ → Outcome
+abbrev pub outcome_of : Result ℕ SubmissionRefusal → List ℕ → List ℕ → List ℕ → List ℕ → Outcome
 outcome_of s b t c d = answer_of s leaving lent_of (counter_of s) b t c d
 
 -- a call of `submit`: lent the counter n, the buffers x and the piece p, it answered r and left y
-abbrev pub Submits : ℕ → Buffers → Piece → Submitted → Buffers → Type 0
+abbrev pub Submits : ℕ → Buffers → Piece → Result ℕ SubmissionRefusal → Buffers → Type 0
 Submits n x p r y =
     outcome_of r y.blases y.tlases y.dependency_counts y.dependencies ≡ submission (lent_with n x) (decode p)
 

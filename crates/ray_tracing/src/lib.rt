@@ -1,10 +1,14 @@
 // Ids, the records of lent tables by value, and what the entry points answer. The paper as definitions stands in specs/.
 #![tactic(auto)]
 
-ghost use Rattle.std.specs.Prelude.{◌≡◌, ◌&&◌, ◌||◌, cond};
+ghost use Rattle.std.specs.Prelude.{◌≡◌};
 ghost use Rattle.ray_tracing.specs.Layout.{version_number, size_in};
-ghost use Rattle.ray_tracing.specs.Plan.{◌or◌};
-ghost use Rattle.ray_tracing.specs.Code.{verdict_of};
+ghost use Rattle.ray_tracing.specs.declared.WriteSheetError.TheVariants as write-sheet;
+ghost use Rattle.ray_tracing.specs.declared.ConvertSheetError.TheVariants as convert-sheet;
+ghost use Rattle.ray_tracing.specs.declared.GroupsError.TheVariants as groups-error;
+ghost use Rattle.ray_tracing.specs.declared.OpenGroupsError.TheVariants as open-groups;
+ghost use Rattle.ray_tracing.specs.declared.BuildAccelerationStructureError.TheVariants as build-error;
+ghost use Rattle.ray_tracing.specs.declared.ValidateAsActionsError.TheVariants as submission-error;
 
 // The bytes of a record of each section, and of an instance.
 pub const BUFFER_SIZE: usize = 9;
@@ -62,6 +66,9 @@ pub struct BlasId(pub u16);
 
 #[derive(Clone, Copy)]
 pub struct TlasId(pub u16);
+
+// Records of lent tables by value. Their fields stay the bytes that they are, also kinds, states and present bytes: definitions speak of each
+// value there, also of those that judging refuses, and an `Option` or an enum holds fewer.
 
 #[derive(Clone, Copy)]
 pub struct Buffer {
@@ -157,11 +164,11 @@ pub enum SheetError {
     InvalidValue,
 }
 
-// What judging finds: nothing to refuse, or the first refusal and its place, a byte of the sheet or a record of a lent table.
+// The first refusal, and its place: a byte of the sheet, or a record of a lent table.
 #[derive(Clone, Copy)]
-pub enum Judged {
-    Fine,
-    Refused(SheetError, usize),
+pub struct SheetRefusal {
+    pub error: SheetError,
+    pub place: usize,
 }
 
 // Where a section's records begin, and how many there are.
@@ -187,48 +194,66 @@ pub struct Sheet {
     pub actions: Section,
 }
 
+// Why a sheet is not written anew: it is not read, or too little room is lent.
 #[derive(Clone, Copy)]
-pub enum SheetRead {
-    Accepted(Sheet),
-    Refused(SheetError, usize),
+pub enum WriteSheetError {
+    Malformed(SheetRefusal),
+    OutputTooShort,
 }
 
-// What writing a sheet came to: how many bytes were written, why the sheet is not read and where, or too little room.
-#[derive(Clone, Copy)]
-pub enum SheetWritten {
-    Written(usize),
-    Refused(SheetError, usize),
-    TooShort,
+impl From<SheetRefusal> for WriteSheetError {
+    ghost from_gives = { λ r e. e ≡ write-sheet.Malformed r };
+
+    fn from(r: SheetRefusal) -> WriteSheetError {
+        WriteSheetError::Malformed(r)
+    }
 }
 
-// What converting a sheet came to: how many bytes were written, why the sheet is not read and where, the place of an offset that does not fit
-// the narrower field, or too little room.
+// Why a sheet is not converted: it is not read, an offset, at this place, does not fit the narrower field, or too little room is lent.
 #[derive(Clone, Copy)]
-pub enum SheetConverted {
-    Written(usize),
-    Refused(SheetError, usize),
-    TooFar(usize),
-    TooShort,
+pub enum ConvertSheetError {
+    Malformed(SheetRefusal),
+    OffsetTooFar(usize),
+    OutputTooShort,
 }
 
-// What judging groups finds: nothing to refuse, and where what was judged ends; a sheet's error at its byte; or, at a group and an item, a count
-// of 0 or a group that is not an earlier one.
+impl From<SheetRefusal> for ConvertSheetError {
+    ghost from_gives = { λ r e. e ≡ convert-sheet.Malformed r };
+
+    fn from(r: SheetRefusal) -> ConvertSheetError {
+        ConvertSheetError::Malformed(r)
+    }
+}
+
+// Why groups are refused: as a sheet is, at a byte; or, at a group and an item, a count of 0 or a group that is not an earlier one.
 #[derive(Clone, Copy)]
-pub enum GroupsJudged {
-    EndsAt(usize),
-    Refused(SheetError, usize),
+pub enum GroupsError {
+    Malformed(SheetRefusal),
     InvalidGroup(usize, usize),
 }
 
-// What opening groups came to: how many bytes were written; what judging them refused; the group and the item of the slot that is one too
-// many; or too little room.
+impl From<SheetRefusal> for GroupsError {
+    ghost from_gives = { λ r e. e ≡ groups-error.Malformed r };
+
+    fn from(r: SheetRefusal) -> GroupsError {
+        GroupsError::Malformed(r)
+    }
+}
+
+// Why groups are not opened: what judging them refused; the group and the item of the slot that is one too many; or too little room.
 #[derive(Clone, Copy)]
-pub enum GroupsOpened {
-    Written(usize),
-    Refused(SheetError, usize),
-    InvalidGroup(usize, usize),
+pub enum OpenGroupsError {
+    Invalid(GroupsError),
     TooManySlots(usize, usize),
-    TooShort,
+    OutputTooShort,
+}
+
+impl From<GroupsError> for OpenGroupsError {
+    ghost from_gives = { λ r e. e ≡ open-groups.Invalid r };
+
+    fn from(r: GroupsError) -> OpenGroupsError {
+        OpenGroupsError::Invalid(r)
+    }
 }
 
 // What a refusal speaks of.
@@ -292,11 +317,12 @@ pub enum BuildAccelerationStructureError {
     OutputTooShort,
 }
 
-// What judging a build finds: nothing to refuse, or the first refusal and E, its entry and geometry or its package and slot.
+// The first refusal of a build, and E: its entry and geometry, or its package and slot.
 #[derive(Clone, Copy)]
-pub enum Verdict {
-    Passed,
-    Refused(BuildAccelerationStructureError, usize, usize),
+pub struct BuildRefusal {
+    pub error: BuildAccelerationStructureError,
+    pub e0: usize,
+    pub e1: usize,
 }
 
 // How many elements of each lent output a recorded build writes.
@@ -311,40 +337,50 @@ pub struct Written {
     pub lists: usize,
 }
 
-// Recorded, with the scratch size; nothing to record, only the initialisation ranges written; or refused, with E.
+// What a build is lent to read: the scratch alignment, and sections 1 to 8 of a version.
+#[derive(Clone, Copy)]
+pub struct BuildTables<'a> {
+    pub version: Version,
+    pub alignment: u32,
+    pub buffers: &'a [u8],
+    pub blases: &'a [u8],
+    pub declared: &'a [u8],
+    pub tlases: &'a [u8],
+    pub entries: &'a [u8],
+    pub geometries: &'a [u8],
+    pub packages: &'a [u8],
+    pub slots: &'a [u8],
+}
+
+// What a build is lent to write.
+#[derive(Drop)]
+pub struct BuildOutputs<'a> {
+    pub blas_offsets: &'a mut [u64],
+    pub tlas_offsets: &'a mut [u64],
+    pub staging_ranges: &'a mut [u64],
+    pub instances: &'a mut [u8],
+    pub init_ranges: &'a mut [u64],
+    pub compactable: &'a mut [u16],
+    pub lists: &'a mut [u16],
+}
+
+// What an accepted build comes to: recorded, with the scratch size; or nothing to record, only the initialisation ranges written.
 #[derive(Clone, Copy)]
 pub enum Built {
     Recorded(u64, Written),
     NothingRecorded(usize),
-    Refused(BuildAccelerationStructureError, usize, usize),
 }
 
-// What a mention of an id finds in its table.
+// An id that is mentioned stands outside its table.
 #[derive(Clone, Copy)]
-pub enum Mentioned {
-    Inside,
-    InvalidResource,
-}
+pub struct OutsideTable;
 
-// What judging an instance finds.
-#[derive(Clone, Copy)]
-pub enum CheckedInstance {
-    Fine,
-    Refused(BuildAccelerationStructureError),
-}
+impl From<OutsideTable> for BuildAccelerationStructureError {
+    ghost from_gives = { λ r e. e ≡ build-error.InvalidResource };
 
-// What appending an instance gives: the bytes in use now, or the refusal.
-#[derive(Clone, Copy)]
-pub enum Appended {
-    InUse(usize),
-    Refused(BuildAccelerationStructureError),
-}
-
-// What appending many instances gives: the bytes in use now, or the refusal and E, which is 0 and an instance's position.
-#[derive(Clone, Copy)]
-pub enum AppendedMany {
-    InUse(usize),
-    Refused(BuildAccelerationStructureError, usize, usize),
+    fn from(_e: OutsideTable) -> BuildAccelerationStructureError {
+        BuildAccelerationStructureError::InvalidResource
+    }
 }
 
 // Why instance records are not read back.
@@ -356,25 +392,11 @@ pub enum ReadInstancesError {
     OutputTooShort,
 }
 
-// What reading instances back came to: how many bytes were written, or the refusal and its record.
+// That, and the number of its record.
 #[derive(Clone, Copy)]
-pub enum InstancesRead {
-    Written(usize),
-    Refused(ReadInstancesError, usize),
-}
-
-// What a Blas declares for a geometry, if it does.
-#[derive(Clone, Copy)]
-pub enum Declared {
-    Missing,
-    Given(BlasGeometrySizeDescriptor),
-}
-
-// The buffer of an id that may be none.
-#[derive(Clone, Copy)]
-pub enum GivenBuffer {
-    Absent,
-    Given(Buffer),
+pub struct ReadInstancesRefusal {
+    pub error: ReadInstancesError,
+    pub index: usize,
 }
 
 // Bytes of a buffer that are to be initialised.
@@ -385,21 +407,12 @@ pub struct Range {
     pub end: u64,
 }
 
+// The ranges that a geometry asks for: of its vertices or AABBs, and where it has them of its indices and its transform.
 #[derive(Clone, Copy)]
-pub enum Asked {
-    Nothing,
-    Of(Range),
-}
-
-// What the checks of a geometry find: the ranges asked for, or the first refusal.
-#[derive(Clone, Copy)]
-pub enum CheckedGeometry {
-    Fine {
-        data: Range,
-        index: Asked,
-        transform: Asked,
-    },
-    Refused(BuildAccelerationStructureError),
+pub struct GeometryRanges {
+    pub primitives: Range,
+    pub index: Option<Range>,
+    pub transform: Option<Range>,
 }
 
 // Why a submission is refused. The Rust's names, and those that the paper adds: where the Rust panics, ids and values of lent tables and
@@ -419,11 +432,29 @@ pub enum ValidateAsActionsError {
     BlasNewerThenTlas(BlasId, TlasId),
 }
 
-// What a submission comes to: accepted, or the first refusal with its action; and the counter that is left.
+// What a submission is lent to change: the Blases and Tlases, and the list that each Tlas was last built with.
+#[derive(Drop)]
+pub struct SubmissionBuffers<'a> {
+    pub blases: &'a mut [u8],
+    pub tlases: &'a mut [u8],
+    pub dependency_counts: &'a mut [u16],
+    pub dependencies: &'a mut [u16],
+}
+
+impl From<OutsideTable> for ValidateAsActionsError {
+    ghost from_gives = { λ r e. e ≡ submission-error.InvalidResource };
+
+    fn from(_e: OutsideTable) -> ValidateAsActionsError {
+        ValidateAsActionsError::InvalidResource
+    }
+}
+
+// The first refusal of a submission, with its action; and the counter that is left.
 #[derive(Clone, Copy)]
-pub enum Submitted {
-    Accepted(u64),
-    Refused(ValidateAsActionsError, usize, u64),
+pub struct SubmissionRefusal {
+    pub error: ValidateAsActionsError,
+    pub action: usize,
+    pub counter: u64,
 }
 
 // The counter of Builds steps where it lies; the submission index never moves.
@@ -444,18 +475,15 @@ pub struct Validated {
     pub second: u64,
 }
 
-// What writing a sheet's lines comes to: so many bytes written, or too few were lent.
+// Too few bytes were lent for a text.
 #[derive(Clone, Copy)]
-pub enum Reported {
-    Written(usize),
-    TooShort,
-}
+pub struct OutputTooShort;
 
 // What the exported functions answer, as C structs of numbers, unused ones 0.
 
 // What reading a sheet came to: number and place, or version, alignment, counter, and start and count of sections 1 to 9.
 #[repr(C)]
-#[derive(Clone, Copy)]
+#[derive(Clone, Copy, Default)]
 pub struct SheetAnswer {
     pub number: u64,
     pub place: u64,
@@ -484,7 +512,7 @@ pub struct SheetAnswer {
 
 // What writing a sheet came to: number and place, and how many bytes were written.
 #[repr(C)]
-#[derive(Clone, Copy)]
+#[derive(Clone, Copy, Default)]
 pub struct WriteAnswer {
     pub number: u64,
     pub place: u64,
@@ -493,7 +521,7 @@ pub struct WriteAnswer {
 
 // What opening groups came to: number, place, and group and item; and how many bytes were written.
 #[repr(C)]
-#[derive(Clone, Copy)]
+#[derive(Clone, Copy, Default)]
 pub struct OpenAnswer {
     pub number: u64,
     pub place: u64,
@@ -505,7 +533,7 @@ pub struct OpenAnswer {
 // What a build came to: number, E and figures, or whether it is recorded, its scratch size and how many elements of each output
 // were written.
 #[repr(C)]
-#[derive(Clone, Copy)]
+#[derive(Clone, Copy, Default)]
 pub struct BuildAnswer {
     pub number: u64,
     pub e0: u64,
@@ -526,7 +554,7 @@ pub struct BuildAnswer {
 
 // What appending instances came to: number, E and figures; and how many bytes are in use.
 #[repr(C)]
-#[derive(Clone, Copy)]
+#[derive(Clone, Copy, Default)]
 pub struct AppendAnswer {
     pub number: u64,
     pub e0: u64,
@@ -539,7 +567,7 @@ pub struct AppendAnswer {
 
 // What reading instances back came to: number and E; and how many bytes were written.
 #[repr(C)]
-#[derive(Clone, Copy)]
+#[derive(Clone, Copy, Default)]
 pub struct InstancesAnswer {
     pub number: u64,
     pub e0: u64,
@@ -549,30 +577,21 @@ pub struct InstancesAnswer {
 
 // What writing a text came to: 0 or 39, and how many bytes were written.
 #[repr(C)]
-#[derive(Clone, Copy)]
+#[derive(Clone, Copy, Default)]
 pub struct ReportAnswer {
     pub number: u64,
     pub written: u64,
 }
 
-pub fn both(a: bool, b: bool) -> bool
-    ensures { result ≡ (a && b) }
-{
-    if a { b } else { false }
-}
+// The version byte.
+impl From<Version> for u8 {
+    ghost from_gives = { λ v r. r ≡ version_number v };
 
-pub fn either(a: bool, b: bool) -> bool
-    ensures { result ≡ (a || b) }
-{
-    if a { true } else { b }
-}
-
-pub fn version_number(version: Version) -> u8
-    ensures { result ≡ version_number version }
-{
-    match version {
-        Version::One => 1,
-        Version::Two => 2,
+    fn from(version: Version) -> u8 {
+        match version {
+            Version::One => 1,
+            Version::Two => 2,
+        }
     }
 }
 
@@ -584,20 +603,4 @@ pub fn geometry_size(version: Version) -> usize
         Version::One => GEOMETRY_SIZE,
         Version::Two => WIDE_GEOMETRY_SIZE,
     }
-}
-
-// The first of two verdicts that refuses.
-pub fn first(a: Verdict, b: Verdict) -> Verdict
-    ensures { verdict_of result ≡ (verdict_of a or verdict_of b) }
-{
-    match a {
-        Verdict::Passed => b,
-        Verdict::Refused(_, _, _) => a,
-    }
-}
-
-pub fn pick(b: bool, x: usize, y: usize) -> usize
-    ensures { result ≡ cond b x y }
-{
-    if b { x } else { y }
 }

@@ -6,13 +6,13 @@ ghost use Rattle.std.specs.Prelude.{◌≡◌, ◌+◌, ◌*◌, ◌/◌, ◌≤
 ghost use Rattle.wire.specs.Wire.{le_at};
 ghost use Rattle.ray_tracing.specs.Layout.{offset_width, size, size_in};
 ghost use Rattle.ray_tracing.specs.Records.{buffer_at, blas_at, declared_at, tlas_at, entry_at, geometry_at, package_at};
-ghost use Rattle.ray_tracing.specs.Mentions.{buffer_mention, blas_mention, tlas_mention, blas_of, tlas_of};
+ghost use Rattle.ray_tracing.specs.Mentions.{mention, buffer_mention, blas_mention, tlas_mention, blas_of, tlas_of};
 ghost use Rattle.ray_tracing.specs.Triangles.{index_width};
 ghost use Rattle.ray_tracing.specs.Code.{mention_of};
 
 use ray_tracing::{
     BLAS_SIZE, BUFFER_SIZE, Blas, BlasBuildEntry, BlasGeometry, BlasGeometrySizeDescriptor, BlasId,
-    Buffer, BufferId, ENTRY_SIZE, Mentioned, PACKAGE_SIZE, TLAS_SIZE, Tlas, TlasId, TlasPackage,
+    Buffer, BufferId, ENTRY_SIZE, OutsideTable, PACKAGE_SIZE, TLAS_SIZE, Tlas, TlasId, TlasPackage,
     Version, geometry_size,
 };
 use wire::{u8_at, u16_at, u32_at, u64_at};
@@ -23,32 +23,33 @@ const HANDLE: usize = 12;
 // The bytes of a geometry's transform.
 pub const TRANSFORM_SIZE: u64 = 48;
 
-// A mention of an id: one function for each sort.
-pub fn buffer_mention(table: &[u8], id: BufferId) -> Mentioned
+// Whether the record of an id stands in its table; part of one at the table's end is none.
+fn mention(table: &[u8], size: usize, id: u16) -> Result<(), OutsideTable>
+    requires { 0 < size }
+    ensures { mention_of result ≡ mention size table.now id }
+{
+    if table.len() / size <= id as usize {
+        return Err(OutsideTable);
+    }
+    Ok(())
+}
+
+pub fn buffer_mention(table: &[u8], id: BufferId) -> Result<(), OutsideTable>
     ensures { mention_of result ≡ buffer_mention table.now id.0 }
 {
-    if table.len() / BUFFER_SIZE <= id.0 as usize {
-        return Mentioned::InvalidResource;
-    }
-    Mentioned::Inside
+    mention(table, BUFFER_SIZE, id.0)
 }
 
-pub fn blas_mention(table: &[u8], id: BlasId) -> Mentioned
+pub fn blas_mention(table: &[u8], id: BlasId) -> Result<(), OutsideTable>
     ensures { mention_of result ≡ blas_mention table.now id.0 }
 {
-    if table.len() / BLAS_SIZE <= id.0 as usize {
-        return Mentioned::InvalidResource;
-    }
-    Mentioned::Inside
+    mention(table, BLAS_SIZE, id.0)
 }
 
-pub fn tlas_mention(table: &[u8], id: TlasId) -> Mentioned
+pub fn tlas_mention(table: &[u8], id: TlasId) -> Result<(), OutsideTable>
     ensures { mention_of result ≡ tlas_mention table.now id.0 }
 {
-    if table.len() / TLAS_SIZE <= id.0 as usize {
-        return Mentioned::InvalidResource;
-    }
-    Mentioned::Inside
+    mention(table, TLAS_SIZE, id.0)
 }
 
 // The record at a byte place of a table: its size is the caller's, its fields' offsets the layout's.
@@ -145,7 +146,7 @@ pub fn offset_at(version: Version, table: &[u8], at: usize) -> u64
     ensures { result ≡ le_at (offset_width version) table.now at }
 {
     match version {
-        Version::One => u32_at(table, at) as u64,
+        Version::One => u64::from(u32_at(table, at)),
         Version::Two => u64_at(table, at),
     }
 }
@@ -200,7 +201,7 @@ pub fn blas_of_entry(blases: &[u8], entries: &[u8], i: usize) -> Blas
     ensures { result ≡ blas_of blases.now (entry_at entries.now (i * size 5)).blas.0 }
 {
     let id = entry_at(entries, i * ENTRY_SIZE).blas;
-    blas_at(blases, id.0 as usize * BLAS_SIZE)
+    blas_at(blases, usize::from(id.0) * BLAS_SIZE)
 }
 
 // The Tlas of package p.
@@ -210,7 +211,7 @@ pub fn tlas_of_package(tlases: &[u8], packages: &[u8], p: usize) -> Tlas
     ensures { result ≡ tlas_of tlases.now (package_at packages.now (p * size 7)).tlas.0 }
 {
     let id = package_at(packages, p * PACKAGE_SIZE).tlas;
-    tlas_at(tlases, id.0 as usize * TLAS_SIZE)
+    tlas_at(tlases, usize::from(id.0) * TLAS_SIZE)
 }
 
 // How many geometries entry i draws.
@@ -218,8 +219,7 @@ pub fn geometry_count(entries: &[u8], i: usize) -> usize
     requires { i * size 5 + size 5 ≤ length entries.now }
     ensures { result ≡ (entry_at entries.now (i * size 5)).geometry_count }
 {
-    let entry = entry_at(entries, i * ENTRY_SIZE);
-    entry.geometry_count as usize
+    usize::from(entry_at(entries, i * ENTRY_SIZE).geometry_count)
 }
 
 // How many slots package p draws.
@@ -227,8 +227,7 @@ pub fn slot_count(packages: &[u8], p: usize) -> usize
     requires { p * size 7 + size 7 ≤ length packages.now }
     ensures { result ≡ (package_at packages.now (p * size 7)).slot_count }
 {
-    let package = package_at(packages, p * PACKAGE_SIZE);
-    package.slot_count as usize
+    usize::from(package_at(packages, p * PACKAGE_SIZE).slot_count)
 }
 
 // A two-byte index, or one of four.

@@ -6,7 +6,7 @@ use mathlib.Core.Bool.{Bool, true, false, cond}
 use mathlib.Core.Path.{◌≡◌, refl, sym, ap, ◌∙◌}
 use mathlib.Core.List.{List, [], append_assoc, append-nil}
 use lib.ListN.{length, take, drop, get_or}
-use lib.Seq.{sets, sets-eq, take_at}
+use lib.Seq.{sets, sets-eq, length-sets, take_at}
 use Rattle.ray_tracing.specs.declared.Written.{Written}
 use Rattle.ray_tracing.specs.Plan.{
   Tables,
@@ -17,6 +17,7 @@ use Rattle.ray_tracing.specs.Plan.{
   not_built,
   records_in,
   plan_of,
+  counts_of,
   build,
   leaves,
   outputs_after,
@@ -29,19 +30,11 @@ use Rattle.ray_tracing.proofs.Inside.{Inside}
 use Rattle.ray_tracing.proofs.Plan.{offsets_length, staging_length}
 use Rattle.ray_tracing.proofs.PlanLaws.{judged, facts}
 use Rattle.wire.proofs.Laws.{sets_within}
-use Rattle.report_words.specs.declared.Refusal.{Refusal}
-use Rattle.report_words.specs.Refused.{told_of, Refuses}
 use Rattle.report_plan.specs.Lines.{blas_lines_of, tlas_lines_of}
-use Rattle.report_submit.specs.Parts.{actions_in, places, lent_parts, submission_outcome}
+use Rattle.report_submit.specs.Parts.{actions_in, places, parts_of, submission_outcome}
 use Rattle.report_submit.proofs.Laws.{cells_are}
-use Rattle.report.specs.declared.Came.{Came}
-use Rattle.report.specs.Parts.{came_of, refusal_of, answer_lines_of, Answered, table_lines, table_refusal}
+use Rattle.report.specs.Parts.{lists_of, answer_lines_of, answer_refusal_of, table_lines, table_refusal}
 use Rattle.report_plan.proofs.Room.{Roomy, build_with_room, lists_room}
-
-pub never : true ≡ false → ⊥
-never e =
-    let z : ◌≡◌ {A = ℕ} 0 1 = cc in
-    omega arith
 
 -- ---- what is written, read back
 
@@ -51,6 +44,13 @@ module _ (out values : List ℕ) (h : length values ≤ length out) where
 
   written_all : take (length values) (sets out 0 values) ≡ values
   written_all = rw (sets-eq values out 0 (omega arith)) (take_at values (drop (0 + length values) out) (length values) refl)
+
+-- ---- what is left is as long as it was
+
+leaves-lengths : (v : Building) (p o : Outputs) → counts_of (leaves v p o) ≡ counts_of o
+leaves-lengths (recorded n w) p o = simp length-sets refl
+leaves-lengths (nothing-recorded n) p o = simp length-sets refl
+leaves-lengths (not_built e f c) p o = refl
 
 -- ---- lines
 
@@ -72,10 +72,6 @@ module _
     tlas-lines-are p zero l = refl
     tlas-lines-are p (suc m) l =
         rw (h p (omega arith), g (2 * p) (omega arith), g (2 * p + 1) (omega arith), tlas-lines-are (p + 1) m (omega arith))
-
--- the tables that a submission looks at
-abbrev parts_of : Tables → Tables
-parts_of x = lent_parts x.blases x.tlases x.entries x.packages
 
 module _ (counter : ℕ) (x : Tables) (r : Bool) (a : List ℕ) {l : List ℕ} (e : l ≡ cond r (plan_of x).lists []) where
   outcome_is : submission_outcome counter (parts_of x) r a l ≡ sheet_outcome counter x r a
@@ -142,54 +138,36 @@ module _ (counter : ℕ) (x : Tables) (o : Outputs) (a : List ℕ) (room : Roomy
     lists-are : take w.lists (sets o.lists 0 (plan_of x).lists) ≡ (plan_of x).lists
     lists-are = rw lists-count (written_all o.lists (plan_of x).lists (lists_room x i o room))
 
-  lists_within : (v : Building) → build x o ≡ v → (came_of v).lists ≤ length o.lists
+  lists_within : (v : Building) → build x o ≡ v → lists_of v ≤ length o.lists
   lists_within (not_built e f c) h = omega arith
   lists_within (nothing-recorded n) h = omega arith
   lists_within (recorded n w) h = rw (lists-count n w h) (lists_room x (i n w h) o room)
 
   -- with what it left of the outputs
-  abbrev lines_after : Building → List ℕ
-  lines_after v =
-      answer_lines_of (came_of v) (told_of (refusal_of v)) counter (parts_of x) a
-      (leaves v (plan_of x) o).blas_offsets
-      (leaves v (plan_of x) o).tlas_offsets
-      (leaves v (plan_of x) o).staging_ranges
-      (take (came_of v).lists (leaves v (plan_of x) o).lists)
-
-  lines_are : (v : Building) → build x o ≡ v → lines_after v ≡ answer_lines counter x a v
-  lines_are (not_built e f c) h = rw append-nil
+  lines_are : (v : Building) → build x o ≡ v → answer_lines_of v counter x a (leaves v (plan_of x) o) ≡ answer_lines counter x a v
+  lines_are (not_built e f c) h = refl
   lines_are (nothing-recorded n) h = rw (submit_lines_are counter x false a refl)
   lines_are (recorded n w) h =
       rw (blases-are n w h, tlases-are n w h, submit_lines_are counter x true a (lists-are n w h)) (simp append_assoc)
 
-  refusal_is :
-      (v : Building)
-      → build x o ≡ v
-      → {given printed : Refusal}
-      → Refuses given (refusal_of v)
-      → Answered (came_of v) given a
-      (submission_outcome counter (parts_of x) (came_of v).recorded a (take (came_of v).lists (leaves v (plan_of x) o).lists)) printed
-      → Refuses printed (answer_refusal counter x a v)
-  refusal_is (not_built e f c) h g r = rw (r.built refl) g
-  refusal_is (nothing-recorded n) h g r = rw (submit_refusal_is counter x false a refl) at (r.submitted refl)
-  refusal_is (recorded n w) h g r = rw (submit_refusal_is counter x true a (lists-are n w h)) at (r.submitted refl)
+  refusal_is : (v : Building) → build x o ≡ v → answer_refusal_of v counter x a (leaves v (plan_of x) o) ≡ answer_refusal counter x a v
+  refusal_is (not_built e f c) h = refl
+  refusal_is (nothing-recorded n) h = rw (submit_refusal_is counter x false a refl)
+  refusal_is (recorded n w) h = rw (submit_refusal_is counter x true a (lists-are n w h))
 
-  -- the code's answer v, in plain values, and the outputs q that it left
-  module _ {v : Building} {q : Outputs} {came : Came} (e : v ≡ build x o) (f : q ≡ outputs_after x o) (g : came ≡ came_of v) where
-    pub lists-fit : came.lists ≤ length o.lists
-    lists-fit = rw (g, e) (lists_within (build x o) refl)
+  -- the code's answer v, and the outputs q that it left
+  module _ {v : Building} {q : Outputs} (e : v ≡ build x o) (f : q ≡ outputs_after x o) where
+    pub lists-fit : lists_of v ≤ length o.lists
+    lists-fit = rw e (lists_within (build x o) refl)
 
-    module _ {given : Refusal} (r : Refuses given (refusal_of v)) where
-      pub built-lines :
-          answer_lines_of came given counter (parts_of x) a q.blas_offsets q.tlas_offsets q.staging_ranges
-          (take came.lists q.lists)
-          ≡ table_lines counter x a
-      unfolding table_lines
-      built-lines = rw (r.numbers, g, e, f, ← build_with_room x o room) (lines_are (build x o) refl)
+    -- no output is longer or shorter than it was
+    pub same-lengths : counts_of q ≡ counts_of o
+    same-lengths = ap counts_of f ∙ leaves-lengths (build x o) (plan_of x) o
 
-      pub built-refusal :
-          {printed : Refusal}
-          → Answered came given a (submission_outcome counter (parts_of x) came.recorded a (take came.lists q.lists)) printed
-          → Refuses printed (table_refusal counter x a)
-      unfolding table_refusal
-      built-refusal p = rw (← build_with_room x o room) (refusal_is (build x o) refl (rw e at r) (rw (g, e, f) at p))
+    pub built-lines : answer_lines_of v counter x a q ≡ table_lines counter x a
+    unfolding table_lines
+    built-lines = rw (e, f, ← build_with_room x o room) (lines_are (build x o) refl)
+
+    pub built-refusal : answer_refusal_of v counter x a q ≡ table_refusal counter x a
+    unfolding table_refusal
+    built-refusal = rw (e, f, ← build_with_room x o room) (refusal_is (build x o) refl)

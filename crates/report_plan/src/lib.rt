@@ -1,16 +1,17 @@
 // The lines of a recorded build: `build`, `scratch`, `blas` and `tlas`.
 #![tactic(auto)]
 
-ghost use Rattle.std.specs.Prelude.{cond, [], ◌+◌, ◌*◌, ◌≤◌, ◌<◌, length};
+ghost use Rattle.std.specs.Prelude.{◌+◌, ◌*◌, ◌≤◌, ◌<◌, length};
 ghost use Rattle.ray_tracing.specs.Layout.{layout};
 ghost use Rattle.ray_tracing.specs.Causes.{cause};
 ghost use Rattle.ray_tracing.specs.Report.{word-build, word-blas, word-tlas, build_line};
 ghost use Rattle.ray_tracing.specs.Sizes.{longest_line};
 ghost use Rattle.ray_tracing.specs.Parts.{packages_in, entries_in};
+ghost use Rattle.ray_tracing.specs.Plan.{lent_tables, lent_outputs};
 ghost use Rattle.report_text.specs.Put.{Put};
-ghost use Rattle.report_plan.specs.Lines.{blas_line, blas_lines_of, tlas_line, tlas_lines_of, plan_lines, longest_plan};
+ghost use Rattle.report_plan.specs.Lines.{blas_line, blas_lines_of, tlas_line, tlas_lines_of, recorded_lines, longest_plan};
 
-use ray_tracing::{ENTRY_SIZE, PACKAGE_SIZE};
+use ray_tracing::{BuildOutputs, BuildTables, ENTRY_SIZE, PACKAGE_SIZE};
 use report_text::put_line;
 use report_words::Refusal;
 use wire::u16_at;
@@ -21,7 +22,7 @@ fn put_blas_line(entries: &[u8], offsets: &[u64], i: usize, out: &mut [u8], at: 
     requires word_blas_in_bounds { at + longest_line word-blas 2 ≤ length out.old }
     ensures { Put out.old at (blas_line entries.now offsets.now i) result out.new }
 {
-    let numbers = [u16_at(entries, i * ENTRY_SIZE) as u64, offsets[i]];
+    let numbers = [u64::from(u16_at(entries, i * ENTRY_SIZE)), offsets[i]];
     put_line(out, at, b"blas", &numbers)
 }
 
@@ -32,12 +33,9 @@ fn put_blas_lines(entries: &[u8], offsets: &[u64], out: &mut [u8], at: usize) ->
         (blas_lines_of entries.now offsets.now 0 (entries_in entries.now))
         result out.new }
 {
-    let n = entries.len() / ENTRY_SIZE;
     let mut end = at;
-    let mut i: usize = 0;
-    while i < n {
+    for i in 0..entries.len() / ENTRY_SIZE {
         end = put_blas_line(entries, offsets, i, out, end);
-        i += 1;
     }
     end
 }
@@ -57,7 +55,7 @@ fn put_tlas_line(
         result out.new }
 {
     let numbers = [
-        u16_at(packages, p * PACKAGE_SIZE) as u64,
+        u64::from(u16_at(packages, p * PACKAGE_SIZE)),
         offsets[p],
         ranges[2 * p],
         ranges[2 * p + 1],
@@ -79,12 +77,9 @@ fn put_tlas_lines(
         (tlas_lines_of packages.now offsets.now ranges.now 0 (packages_in packages.now))
         result out.new }
 {
-    let n = packages.len() / PACKAGE_SIZE;
     let mut end = at;
-    let mut p: usize = 0;
-    while p < n {
+    for p in 0..packages.len() / PACKAGE_SIZE {
         end = put_tlas_line(packages, offsets, ranges, p, out, end);
-        p += 1;
     }
     end
 }
@@ -99,33 +94,32 @@ pub fn put_build_line(out: &mut [u8], v: Refusal) -> usize
     put_line(out, 0, b"build", &numbers)
 }
 
-// The lines below it, if the build is recorded.
+// The lines below it, if the build is recorded, with its scratch size.
 pub fn put_plan(
-    recorded: bool,
-    size: u64,
-    entries: &[u8],
-    packages: &[u8],
-    blas_offsets: &[u64],
-    tlas_offsets: &[u64],
-    staging_ranges: &[u64],
+    scratch: Option<u64>,
+    tables: &BuildTables<'_>,
+    outputs: &BuildOutputs<'_>,
     out: &mut [u8],
     at: usize,
 ) -> usize
-    requires entries_bound { (entries_in entries.now ≤ (layout 5).most) × (packages_in packages.now ≤ (layout 7).most) }
-    requires entries_in_bounds { entries_in entries.now ≤ length blas_offsets.now }
-    requires packages_in_bounds { packages_in packages.now ≤ length tlas_offsets.now }
-    requires packages_in_bounds_2 { (packages_in packages.now * 2 ≤ length staging_ranges.now)
+    requires entries_bound { (entries_in tables.now.entries.now ≤ (layout 5).most)
+        × (packages_in tables.now.packages.now ≤ (layout 7).most) }
+    requires entries_in_bounds { entries_in tables.now.entries.now ≤ length outputs.now.blas_offsets.now }
+    requires packages_in_bounds { packages_in tables.now.packages.now ≤ length outputs.now.tlas_offsets.now }
+    requires packages_in_bounds_2 { (packages_in tables.now.packages.now * 2 ≤ length outputs.now.staging_ranges.now)
         × (at + longest_plan ≤ length out.old) }
-    ensures { Put out.old at
-        (cond recorded (plan_lines size entries.now packages.now
-        blas_offsets.now tlas_offsets.now staging_ranges.now) [])
-        result out.new }
+    ensures { Put out.old at (recorded_lines scratch (lent_tables tables.now) (lent_outputs outputs.now)) result out.new }
 {
-    if !recorded {
+    let Some(size) = scratch else {
         return at;
-    }
-    let numbers = [size];
-    let end = put_line(out, at, b"scratch", &numbers);
-    let next = put_blas_lines(entries, blas_offsets, out, end);
-    put_tlas_lines(packages, tlas_offsets, staging_ranges, out, next)
+    };
+    let end = put_line(out, at, b"scratch", &[size]);
+    let next = put_blas_lines(tables.entries, &*outputs.blas_offsets, out, end);
+    put_tlas_lines(
+        tables.packages,
+        &*outputs.tlas_offsets,
+        &*outputs.staging_ranges,
+        out,
+        next,
+    )
 }

@@ -16,7 +16,8 @@ use Rattle.ray_tracing.specs.Plan.{Tables, records_in}
 use Rattle.ray_tracing.specs.Report.{submit_numbers, outcome_lines, kept, action_cells, positions}
 use Rattle.ray_tracing.specs.Explain.{outcome_refusal}
 use Rattle.ray_tracing.specs.Parts.{listing}
-use Rattle.ray_tracing.specs.declared.Submitted.{Submitted}
+use Rattle.std.specs.Prelude.{Result}
+use Rattle.ray_tracing.specs.declared.SubmissionRefusal.{SubmissionRefusal}
 use Rattle.ray_tracing.specs.Submission.{
   Answer,
   accepted,
@@ -32,22 +33,12 @@ use Rattle.ray_tracing.specs.Submission.{
   lent_of,
   piece_of,
 }
-use Rattle.ray_tracing.proofs.Plan.{left_more, left-none}
+use Rattle.ray_tracing.proofs.Plan.{left_more, left-none as no-more}
 use Rattle.report_text.specs.Put.{Put}
-use Rattle.report_text.proofs.Laws.{put_nothing}
+use Rattle.report_text.proofs.Laws.{put_nothing, put_same_length, line-most, left-all, left_less, left-none}
 use Rattle.report_words.specs.declared.Refusal.{Refusal}
 use Rattle.report_words.specs.Refused.{told_of, Refuses}
 use Rattle.report_submit.specs.Parts.{actions_in, kind_of, kept_cells, all_cells, lent_parts, submission_outcome}
-
-pub not_one : (b : Bool) → not b ≡ cond b false true
-not_one true = refl
-not_one false = refl
-
-pub four_stored : (s : List ℕ) (at a b c d : ℕ) → set (set (set (set s at a) (at + 1) b) (at + 2) c) (at + 3) d ≡ sets s at (a ∷ b ∷ c ∷ d ∷ [])
-four_stored s at a b c d =
-    let two : at + 2 ≡ suc (suc at) = omega arith in
-    let three : at + 3 ≡ suc (suc (suc at)) = omega arith in
-    rw (add-one, two, three)
 
 cells_four : (x : Tables) (b d : Bool) (kind operand : ℕ) → length (cond b (cond d (1 ∷ 0 ∷ records_in x 5 ∷ records_in x 7 ∷ []) (kind ∷ operand ∷ 0 ∷ 0 ∷ [])) []) ≤ 4
 cells_four x true true kind operand = omega arith
@@ -64,24 +55,7 @@ module _ (x : Tables) (recorded : Bool) (a : List ℕ) (i n : ℕ) where
 
   pub cells-none : n ≤ i → action_cells x recorded a i (n - i) ≡ []
   unfolding action_cells
-  cells-none h = rw (left-none i n h)
-
--- action i, by its kind k and whether it is kept, b
-module _ (x : Tables) (recorded : Bool) (a : List ℕ) (i at : ℕ) {s : List ℕ} {k : ℕ} {b : Bool} (e : k ≡ kind_of a i) (f : b ≡ kept recorded k) where
-  pub put_none : b ≡ false → Put s at (kept_cells x recorded a i) at s
-  put_none h = rw (← e, ← f, h) (put_nothing s at)
-
-  pub put_recorded : {t : List ℕ} → b ≡ true → k ≡ 1 → t ≡ sets s at (1 ∷ 0 ∷ records_in x 5 ∷ records_in x 7 ∷ []) → Put s at (kept_cells x recorded a i) (at + 4) t
-  put_recorded h l g = rw (← e, ← f, h, eq-eqb k 1 l) (record { ends = refl; bytes = g })
-
-  pub put_other :
-      {t : List ℕ} {o : ℕ}
-      → b ≡ true
-      → (k ≡ 1 → ⊥)
-      → o ≡ field_at 9 a (i * size 9) 1
-      → t ≡ sets s at (k ∷ o ∷ 0 ∷ 0 ∷ [])
-      → Put s at (kept_cells x recorded a i) (at + 4) t
-  put_other h l m g = rw (← e, ← f, h, ne_eqb k 1 l, ← m) (record { ends = refl; bytes = g })
+  cells-none h = rw (no-more i n h)
 
 -- ---- positions
 
@@ -92,7 +66,7 @@ position_rest l i (suc k) h = rw sub-one
 module _ (recorded : Bool) (a : List ℕ) (i n left whole : ℕ) (inv : get_or (positions recorded a i (n - i)) left 0 ≡ whole) where
   pub position_none : n ≤ i → 0 ≡ whole
   unfolding positions
-  position_none h = rw (left-none i n h) at inv
+  position_none h = rw (no-more i n h) at inv
 
   module _ (h : i < n) {k : ℕ} {b : Bool} (e : k ≡ kind_of a i) (f : b ≡ kept recorded k) where
     pub position-passed : b ≡ false → get_or (positions recorded a (i + 1) (n - (i + 1))) left 0 ≡ whole
@@ -137,7 +111,7 @@ zeros (suc n) (suc m) h = ap (λ (l : List ℕ). 0 ∷ l) (zeros n m (le_of_suc-
 -- ---- what is told of a submission
 
 -- what it leaves is not told, but for the counter
-module _ (s : Submitted) (actions positions : List ℕ) {b t c d : List ℕ} {x : Outcome} (e : outcome_of s b t c d ≡ x) where
+module _ (s : Result ℕ SubmissionRefusal) (actions positions : List ℕ) {b t c d : List ℕ} {x : Outcome} (e : outcome_of s b t c d ≡ x) where
   pub lines-told : outcome_lines positions (outcome_of s [] [] [] []) ≡ outcome_lines positions x
   lines-told = ap (outcome_lines positions) e
 
@@ -150,20 +124,6 @@ module _ (s : Submitted) (actions positions : List ℕ) {b t c d : List ℕ} {x 
           ≡ outcome_refusal actions positions (v leaving lent_of (counter_of s) b t c d)
       go accepted = refl
       go (refused i cause) = refl
-
--- the numbers of the line `submit` are those of the refusal
-pub numbers-told :
-    (s : Submitted) (actions positions : List ℕ) {v : Refusal}
-    → Refuses v (outcome_refusal actions positions (outcome_of s [] [] [] []))
-    → (v.number ∷ v.e ∷ v.x ∷ v.y ∷ []) ≡ submit_numbers positions (answer_of s)
-numbers-told s actions positions h = rw h.numbers (go (answer_of s))
-  where
-    go :
-        (a : Answer)
-        → let v = told_of (outcome_refusal actions positions (a leaving lent_of (counter_of s) [] [] [] [])) in
-        (v.number ∷ v.e ∷ v.x ∷ v.y ∷ []) ≡ submit_numbers positions a
-    go accepted = refl
-    go (refused i cause) = refl
 
 -- the submission s of copies b and t, empty lists c and d, and cells l
 pub outcome_is :
@@ -179,3 +139,9 @@ pub outcome_is :
 unfolding submission_outcome
 outcome_is counter blases tlases entries packages recorded actions lists o e f g h k =
     rw (e, f, g, h, k, cells_are (lent_parts blases tlases entries packages) recorded actions 0 (actions_in actions)) at o
+
+pub ruleset places_walk = (position_none, position-passed, position_later)
+
+pub ruleset cells_walk = (cells_more, cells-none, kept-most, left-all, left_less, left-none, put_same_length)
+
+pub ruleset lines = (put_same_length, line-most)

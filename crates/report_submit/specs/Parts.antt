@@ -44,3 +44,10 @@ pub record Lendable (blases tlases entries packages actions : List ℕ) : Type 0
   pub few-entries : entries_in entries ≤ (layout 5).most
   pub few-packages : packages_in packages ≤ (layout 7).most
   pub few-actions : actions_in actions ≤ (layout 9).most
+
+-- of a build's tables, those
+abbrev pub parts_of : Tables → Tables
+parts_of x = lent_parts x.blases x.tlases x.entries x.packages
+
+abbrev pub LendableTables : Tables → List ℕ → Type 0
+LendableTables x actions = Lendable x.blases x.tlases x.entries x.packages actions

@@ -6,7 +6,7 @@ ghost use Rattle.ray_tracing.specs.Report.{decimal, spaced, line, reported_of, P
 ghost use Rattle.ray_tracing.specs.Sizes.{longest_line};
 ghost use Rattle.report_text.specs.Put.{Put};
 
-use ray_tracing::Reported;
+use ray_tracing::OutputTooShort;
 use wire::put_bytes;
 
 // Each of these writes from index `at` on and returns the index past what it wrote.
@@ -26,7 +26,7 @@ fn digit(n: u64) -> u8
     (48 + n) as u8
 }
 
-// The digits come last first, so they go into an array from its end on.
+// By hand: of what the library's formatting writes no contract speaks. The digits come last first, so they go into an array from its end on.
 pub fn put_decimal(out: &mut [u8], at: usize, n: u64) -> usize
     requires { at + 20 ≤ length out.old }
     ensures { Put out.old at (decimal n) result out.new }
@@ -34,10 +34,11 @@ pub fn put_decimal(out: &mut [u8], at: usize, n: u64) -> usize
     let mut digits = [0u8; 20];
     let mut first: usize = 20;
     let mut rest = n;
+    // A `while`: no count, since how many digits a number has is not known before.
     while 10 <= rest {
         first -= 1;
         digits[first] = digit(rest % 10);
-        rest = rest / 10;
+        rest /= 10;
     }
     first -= 1;
     digits[first] = digit(rest);
@@ -66,10 +67,8 @@ fn put_numbers(out: &mut [u8], at: usize, numbers: &[u64]) -> usize
     ensures { Put out.old at (spaced numbers.now) result out.new }
 {
     let mut end = at;
-    let mut k: usize = 0;
-    while k < numbers.len() {
-        end = put_number(out, end, numbers[k]);
-        k += 1;
+    for &n in numbers {
+        end = put_number(out, end, n);
     }
     end
 }
@@ -85,11 +84,11 @@ pub fn put_line(out: &mut [u8], at: usize, word: &[u8], numbers: &[u64]) -> usiz
 }
 
 // The whole text, if it fits into what is lent.
-pub fn put_text(out: &mut [u8], text: &[u8]) -> Reported
+pub fn put_text(out: &mut [u8], text: &[u8]) -> Result<usize, OutputTooShort>
     ensures { Puts text.now out.old (reported_of result) out.new }
 {
     if out.len() < text.len() {
-        return Reported::TooShort;
+        return Err(OutputTooShort);
     }
-    Reported::Written(put(out, 0, text))
+    Ok(put(out, 0, text))
 }

@@ -14,16 +14,14 @@ ghost use Rattle.report_words.specs.Lines.{destroyed_place, reached_place, build
 ghost use Rattle.report_words.specs.Lines.{append_place, write_place, open_place, many_place, to_two_place, to_one_place, record_place, line_place};
 
 use causes::{Figures, build_figures, sheet_number, submission_figures};
-use ray_tracing::{
-    BuildAccelerationStructureError, Reported, SheetError, ValidateAsActionsError, both, either,
-    pick,
-};
+use ray_tracing::{BuildRefusal, OutputTooShort, SheetRefusal, ValidateAsActionsError};
 use report_text::{put, put_byte, put_decimal, put_text};
 
 // The call that refuses, by its number (1 reads a sheet, 2 builds, 3 submits, 4 appends an instance, 5 writes a sheet, 6 opens groups, 7 appends many
 // instances, 8 converts a sheet to version 2, 9 to version 1, 10 reads instances back), the refusal's number, place and figures; an action is in E
-// and its kind in F, a group in E and its item in F, an instance's position in F, a record in E. Number 0 refuses nothing.
-#[derive(Clone, Copy)]
+// and its kind in F, a group in E and its item in F, an instance's position in F, a record in E. Number 0 refuses nothing. The call is a number,
+// as in C, where any may stand.
+#[derive(Clone, Copy, Default)]
 pub struct Refusal {
     pub call: u64,
     pub number: u64,
@@ -37,28 +35,19 @@ pub struct Refusal {
 pub fn no_refusal() -> Refusal
     ensures { Refuses result nothing }
 {
-    Refusal {
-        call: 0,
-        number: 0,
-        e: 0,
-        f: 0,
-        x: 0,
-        y: 0,
-        z: 0,
-    }
+    Refusal::default()
 }
 
-pub fn sheet_refusal(e: SheetError, place: usize) -> Refusal
-    ensures { Refuses result (of_sheet (sheet_number e) place) }
-{
-    Refusal {
-        call: 1,
-        number: sheet_number(e),
-        e: place as u64,
-        f: 0,
-        x: 0,
-        y: 0,
-        z: 0,
+impl From<SheetRefusal> for Refusal {
+    ghost from_gives = { λ r v. Refuses v (of_sheet (sheet_number r.error) r.place) };
+
+    fn from(r: SheetRefusal) -> Refusal {
+        Refusal {
+            call: 1,
+            number: sheet_number(r.error),
+            e: r.place as u64,
+            ..Refusal::default()
+        }
     }
 }
 
@@ -76,16 +65,18 @@ fn refused_by(call: u64, e: usize, f: usize, cause: Figures) -> Refusal
     }
 }
 
-pub fn build_refusal(error: BuildAccelerationStructureError, e: usize, g: usize) -> Refusal
-    ensures { Refuses result (of_build e g (build_cause error)) }
-{
-    refused_by(2, e, g, build_figures(error))
+impl From<BuildRefusal> for Refusal {
+    ghost from_gives = { λ r v. Refuses v (of_build r.e0 r.e1 (build_cause r.error)) };
+
+    fn from(r: BuildRefusal) -> Refusal {
+        refused_by(2, r.e0, r.e1, build_figures(r.error))
+    }
 }
 
 pub fn action_refusal(error: ValidateAsActionsError, i: usize, kind: u8) -> Refusal
     ensures { Refuses result (of_action i kind (submission_cause error)) }
 {
-    refused_by(3, i, kind as usize, submission_figures(error))
+    refused_by(3, i, usize::from(kind), submission_figures(error))
 }
 
 fn put_kind(out: &mut [u8], at: usize, kind: u64) -> usize
@@ -102,6 +93,7 @@ fn put_kind(out: &mut [u8], at: usize, kind: u64) -> usize
     }
 }
 
+#[tactic(auto, unfolding(crate::specs::Lines::number_for))]
 fn number_for(v: Refusal, b: u8) -> u64
     ensures { result ≡ number_for v b }
 {
@@ -118,12 +110,11 @@ fn number_for(v: Refusal, b: u8) -> u64
 fn is_number(b: u8) -> bool
     ensures { result ≡ is_number b }
 {
-    let place = either(b == b'E', b == b'F');
-    let figure = either(b == b'X', either(b == b'Y', b == b'Z'));
-    either(b == b'#', either(place, figure))
+    matches!(b, b'#' | b'E' | b'F' | b'X' | b'Y' | b'Z')
 }
 
 // What a letter stands for; any other byte stands for itself.
+#[tactic(auto, unfolding(crate::specs::Lines::letter))]
 fn put_letter(out: &mut [u8], at: usize, b: u8, v: Refusal) -> usize
     requires { at + 24 ≤ length out.old }
     ensures { Put out.old at (letter v b) result out.new }
@@ -143,14 +134,11 @@ fn put_filled(out: &mut [u8], at: usize, text: &[u8], v: Refusal) -> usize
     ensures { Put out.old at (filled v text.now) result out.new }
 {
     let mut end = at;
-    let mut k: usize = 0;
-    while k < text.len() {
-        let b = text[k];
+    for &b in text {
         end = put_letter(out, end, b, v);
         if b == b'\n' {
-            return end;
+            break;
         }
-        k += 1;
     }
     end
 }
@@ -160,19 +148,15 @@ fn line_start(text: &[u8], n: usize) -> usize
     ensures { (result ≤ length text.now) × (drop result text.now ≡ past_lines n text.now) }
 {
     let mut left = n;
-    let mut k: usize = 0;
-    while k < text.len() {
+    for (k, &b) in text.iter().enumerate() {
         if left == 0 {
             return k;
         }
-        let b = text[k];
-        k += 1;
-        if b != b'\n' {
-            continue;
+        if b == b'\n' {
+            left -= 1;
         }
-        left -= 1;
     }
-    k
+    text.len()
 }
 
 fn put_line_of(out: &mut [u8], at: usize, text: &[u8], n: usize, v: Refusal) -> usize
@@ -265,120 +249,158 @@ refused 50: address of no Blas or of several, record E
     put_line_of(out, at, lines, n, v)
 }
 
-// Which of those lines, by sums and choices: 1 for a number that the call does not refuse with.
+// Which of those lines: 1 for a number that the call does not refuse with.
 
 // n and so many more, if n is from a to b.
 fn shifted(n: u64, a: u64, b: u64, by: usize, other: usize) -> usize
     requires { (b ≤ 64) × (by ≤ 64) }
     ensures { result ≡ cond (between a b n) (n + by) other }
 {
-    if n < a {
-        return other;
+    if a <= n && n <= b {
+        n as usize + by
+    } else {
+        other
     }
-    if b < n {
-        return other;
-    }
-    n as usize + by
 }
 
 // By the sort.
 fn destroyed_place(sort: u64) -> usize
     ensures { result ≡ destroyed_place sort }
 {
-    pick(sort == 1, 21, pick(sort == 2, 40, pick(sort == 3, 41, 42)))
+    match sort {
+        1 => 21,
+        2 => 40,
+        3 => 41,
+        _ => 42,
+    }
 }
 
 // By whose total it is.
 fn reached_place(figure: u64) -> usize
     ensures { result ≡ reached_place figure }
 {
-    pick(figure == 1, 66, pick(figure == 2, 67, 37))
+    match figure {
+        1 => 66,
+        2 => 67,
+        _ => 37,
+    }
 }
 
 fn build_place(n: u64, first: u64) -> usize
     ensures { result ≡ build_place n first }
 {
-    let one = shifted(n, 10, 39, 0, 1);
-    let reached = pick(n == 37, reached_place(first), one);
-    let other = pick(n == 21, destroyed_place(first), reached);
-    shifted(n, 4, 6, 3, other)
+    match n {
+        21 => destroyed_place(first),
+        37 => reached_place(first),
+        _ => shifted(n, 4, 6, 3, shifted(n, 10, 39, 0, 1)),
+    }
 }
 
 // By the kind: of a Build and of a mark that names lists, of a use, and of none.
 fn unbuilt_place(kind: u64) -> usize
     ensures { result ≡ unbuilt_place kind }
 {
-    pick(either(kind == 1, kind == 5), 50, pick(kind == 2, 53, 54))
+    match kind {
+        1 | 5 => 50,
+        2 => 53,
+        _ => 54,
+    }
 }
 
 fn action_place(n: u64, kind: u64) -> usize
     ensures { result ≡ action_place n kind }
 {
-    let one = shifted(n, 39, 44, 8, pick(n == 21, 46, 1));
-    let other = pick(n == 42, unbuilt_place(kind), one);
-    shifted(n, 4, 6, 39, other)
+    match n {
+        21 => 46,
+        42 => unbuilt_place(kind),
+        _ => shifted(n, 4, 6, 39, shifted(n, 39, 44, 8, 1)),
+    }
 }
 
 fn append_place(n: u64) -> usize
     ensures { result ≡ append_place n }
 {
-    let other = pick(n == 6, 55, pick(n == 39, 58, 1));
-    shifted(n, 34, 35, 22, other)
+    match n {
+        6 => 55,
+        39 => 58,
+        _ => shifted(n, 34, 35, 22, 1),
+    }
 }
 
 fn write_place(n: u64) -> usize
     ensures { result ≡ write_place n }
 {
-    shifted(n, 1, 5, 1, pick(n == 39, 58, 1))
+    match n {
+        39 => 58,
+        _ => shifted(n, 1, 5, 1, 1),
+    }
 }
 
 fn open_place(n: u64) -> usize
     ensures { result ≡ open_place n }
 {
-    let other = shifted(n, 2, 5, 1, pick(n == 39, 58, 1));
-    shifted(n, 45, 46, 14, other)
+    match n {
+        39 => 58,
+        _ => shifted(n, 45, 46, 14, shifted(n, 2, 5, 1, 1)),
+    }
 }
 
 // By the position, which of the first one's 6 may be the Tlas's.
 fn many_place(n: u64, f: u64) -> usize
     ensures { result ≡ many_place n f }
 {
-    let other = shifted(n, 5, 6, 56, pick(n == 39, 58, 1));
-    pick(both(n == 6, f == 0), 65, shifted(n, 34, 35, 29, other))
+    match (n, f) {
+        (6, 0) => 65,
+        (39, _) => 58,
+        _ => shifted(n, 34, 35, 29, shifted(n, 5, 6, 56, 1)),
+    }
 }
 
 fn to_two_place(n: u64) -> usize
     ensures { result ≡ to_two_place n }
 {
-    pick(n == 1, 68, write_place(n))
+    match n {
+        1 => 68,
+        _ => write_place(n),
+    }
 }
 
 fn to_one_place(n: u64) -> usize
     ensures { result ≡ to_one_place n }
 {
-    pick(n == 1, 69, pick(n == 47, 70, write_place(n)))
+    match n {
+        1 => 69,
+        47 => 70,
+        _ => write_place(n),
+    }
 }
 
 fn record_place(n: u64) -> usize
     ensures { result ≡ record_place n }
 {
-    shifted(n, 48, 50, 23, pick(n == 39, 58, 1))
+    match n {
+        39 => 58,
+        _ => shifted(n, 48, 50, 23, 1),
+    }
 }
 
 fn line_place(call: u64, n: u64, kind: u64, figure: u64) -> usize
     ensures { result ≡ line_place call n kind figure }
 {
-    let tenth = pick(call == 10, record_place(n), 1);
-    let ninth = pick(call == 9, to_one_place(n), tenth);
-    let eighth = pick(call == 8, to_two_place(n), ninth);
-    let seventh = pick(call == 7, many_place(n, kind), eighth);
-    let sixth = pick(call == 6, open_place(n), seventh);
-    let fifth = pick(call == 5, write_place(n), sixth);
-    let fourth = pick(call == 4, append_place(n), fifth);
-    let third = pick(call == 3, action_place(n, kind), fourth);
-    let second = pick(call == 2, build_place(n, figure), third);
-    let first = pick(call == 1, shifted(n, 1, 5, 1, 1), second);
-    pick(n == 0, 0, first)
+    match (call, n) {
+        (_, 0) => 0,
+        (1, _) => shifted(n, 1, 5, 1, 1),
+        (2, _) => build_place(n, figure),
+        (3, _) => action_place(n, kind),
+        (4, _) => append_place(n),
+        (5, _) => write_place(n),
+        (6, _) => open_place(n),
+        (7, _) => many_place(n, kind),
+        (8, _) => to_two_place(n),
+        (9, _) => to_one_place(n),
+        (10, _) => record_place(n),
+        _ => 1,
+    }
 }
 
 // The words of a refusal, where they surely fit.
@@ -391,7 +413,7 @@ pub fn put_words(out: &mut [u8], at: usize, v: Refusal) -> usize
 }
 
 // The words of a refusal, if they fit into what is lent: no more than 247 bytes are ever needed.
-pub fn words(v: Refusal, out: &mut [u8]) -> Reported
+pub fn words(v: Refusal, out: &mut [u8]) -> Result<usize, OutputTooShort>
     ensures { Puts (words_in v) out.old (reported_of result) out.new }
 {
     let mut text = [0u8; 271];

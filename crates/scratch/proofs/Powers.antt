@@ -3,16 +3,17 @@ use mathlib.Core.Path.{◌≡◌, refl, sym, ap, ◌∙◌}
 use mathlib.Core.Bool.{Bool, true, false, ◌||◌, or-true, false≢true}
 use mathlib.Core.Logic.{◌↔◌}
 use Prim.Native.Nat.{ℕ, zero, suc, ◌+◌, ◌-◌, ◌*◌, ◌/◌, ◌^◌, ◌≤◌, ◌<◌}
-use native.Mathlib.Nat.{le-div_iff_mul-le, mul-le-mul_right, lt_of_not-le, not-le_of_lt, mod_self, pow-suc}
+use native.Mathlib.Nat.{le-div_iff_mul-le, mul-le-mul_right, lt_of_not-le, not-le_of_lt, pow-suc}
 use native.Mathlib.Omega.{arith}
-use lib.Bits.{bit_and, and_mask, and_le_l, and_self, and_block, and_high}
-use lib.Count.{leading_top}
+use lib.Bits.{bit_and, and_le_l, and_high}
+use lib.Count.{leading_top, ones}
 use lib.Dec.{ltb, eqb}
 use lib.Pow.{pow_pos, pow_mono, pow-add, shr_mod}
 use borrow.Author.Tests.{ltb-true, ltb-false, eqb-true, eq-eqb}
-use Rattle.scratch.specs.declared.Rounding.TheVariants as rounding
+use Rattle.std.specs.Prelude.{Some, None, count_ones, ◌==◌}
+use Rattle.std.proofs.lemmas.Nat.{zero_from_ones, ones_le_self, ones_cat}
 use Rattle.scratch.specs.Scratch.{round_up, reported, PowerOfTwo, power_below, power_of_two}
-use Rattle.scratch.proofs.Laws.{up_to}
+use Rattle.scratch.proofs.Laws.{up_to, past as up_past}
 
 -- ---- the sentence, and trying each
 
@@ -46,49 +47,35 @@ power_exactly n h = (found 64 n, λ p. tried 64 n p.0 (exponent_below p.0 64 (rw
 
 -- ---- by bits
 
--- a power of two has no bit in common with the number before it
-apart : (n : ℕ) → PowerOfTwo n → bit_and n (n - 1) ≡ 0
-apart n p = rw p.1 (and_mask (2 ^ p.0) p.0 ∙ mod_self (2 ^ p.0))
+-- a power of two has one bit
+one_bit : (n : ℕ) → PowerOfTwo n → count_ones n ≡ 1
+unfolding ones
+one_bit n p =
+    let split : n ≡ 1 * 2 ^ p.0 + 0 = omega (arith, p.1) in
+    rw split (ones_cat p.0 1 0 (pow_pos p.0))
 
--- two numbers with the same highest bit have it in common
-highest : (j r s : ℕ) → r < 2 ^ j → s < 2 ^ j → bit_and (1 * 2 ^ j + r) (1 * 2 ^ j + s) ≡ 1 * 2 ^ j + bit_and r s
-highest j r s l m = and_block j 1 1 r s l m ∙ ap (λ (i : ℕ). i * 2 ^ j + bit_and r s) (and_self 1)
+-- a number of one bit is its highest
+alone : (n : ℕ) → n < 2 ^ 64 → count_ones n ≡ 1 → PowerOfTwo n
+unfolding ones
+alone n l e =
+    let t = leading_top 64 n (omega (arith, e, ones_le_self n)) l in
+    let j = t.0 in
+    let rest : n - 2 ^ j < 2 ^ j = omega (arith, t.3, pow-suc 2 j) in
+    let split : n ≡ 1 * 2 ^ j + (n - 2 ^ j) = omega (arith, t.2) in
+    let bits : count_ones n ≡ 1 + count_ones (n - 2 ^ j) = ap count_ones split ∙ ones_cat j 1 (n - 2 ^ j) rest in
+    (j, omega (arith, t.2, zero_from_ones (n - 2 ^ j) (omega (arith, bits, e))))
 
-shared : (a b j r s : ℕ) → a ≡ 1 * 2 ^ j + r → b ≡ 1 * 2 ^ j + s → r < 2 ^ j → s < 2 ^ j → 0 < bit_and a b
-shared a b j r s p q l m = rw p (rw q (omega (arith, highest j r s l m, pow_pos j)))
-
--- so a number that has none in common with the one before it is its highest bit
-alone : (n : ℕ) → 0 < n → n < 2 ^ 64 → bit_and n (n - 1) ≡ 0 → PowerOfTwo n
-alone n h l e =
-    let t = leading_top 64 n h l in
-    go t.0 t.2 t.3 (ltb (2 ^ t.0) n) refl
+pub power_bits : (n : ℕ) → n < 2 ^ 64 → (count_ones n == 1) ≡ power_of_two n
+power_bits n h = go (count_ones n == 1) (power_of_two n) refl refl
   where
-    go : (j : ℕ) → 2 ^ j ≤ n → n < 2 ^ suc j → (t : Bool) → ltb (2 ^ j) n ≡ t → PowerOfTwo n
-    go j low high true q =
-        let above : 2 ^ j < n = ltb-true (2 ^ j) n q in
-        let below : n < 2 ^ j + 2 ^ j = omega (arith, high, pow-suc 2 j) in
-        let r : n - 2 ^ j < 2 ^ j = omega (arith, below, low) in
-        let s : n - 1 - 2 ^ j < 2 ^ j = omega (arith, below, above) in
-        absurd (omega (arith, e, shared n (n - 1) j (n - 2 ^ j) (n - 1 - 2 ^ j) (omega (arith, above)) (omega (arith, above)) r s))
-    go j low high false q = (j, omega (arith, low, ltb-false (2 ^ j) n q))
+    go : (b t : Bool) → (count_ones n == 1) ≡ b → power_of_two n ≡ t → b ≡ t
+    go true t p q = sym ((power_exactly n h).1 (alone n h (eqb-true (count_ones n) 1 p))) ∙ q
+    go false true p q = sym p ∙ eq-eqb (count_ones n) 1 (one_bit n ((power_exactly n h).0 q))
+    go false false p q = refl
 
-module _ (n : ℕ) (h : n < 2 ^ 64) where
-  -- whatever is yes exactly for the powers of two is the test
-  tells : (b : Bool) → (b ≡ true → PowerOfTwo n) → (PowerOfTwo n → b ≡ true) → b ≡ power_of_two n
-  tells true f g = sym ((power_exactly n h).1 (f refl))
-  tells false f g = go (power_of_two n) refl
-    where
-      go : (t : Bool) → power_of_two n ≡ t → false ≡ t
-      go true q = g ((power_exactly n h).0 q)
-      go false q = refl
-
-  pub power_none : n ≡ 0 → false ≡ power_of_two n
-  power_none e = tells false (λ q. absurd (false≢true q)) (λ p. absurd (omega (arith, e, pow_pos p.0, p.1)))
-
-  pub power_bits : 0 < n → eqb (bit_and n (n - 1)) 0 ≡ power_of_two n
-  power_bits l =
-      let bits = bit_and n (n - 1) in
-      tells (eqb bits 0) (λ q. alone n l h (eqb-true bits 0 q)) (λ p. eq-eqb bits 0 (apart n p))
+pub power_none : power_of_two 0 ≡ false
+unfolding ones
+power_none = sym (power_bits 0 (omega arith))
 
 -- ---- rounding by a mask
 
@@ -125,11 +112,15 @@ module _ (a : ℕ) (h : a < 2 ^ 64) (e : power_of_two a ≡ true) where
   cleared n l = rw power.1 (masked (n + (2 ^ power.0 - 1)) power.0 exponent_small (rw (← power.1) l))
 
   pub round_masked :
-      (n m : ℕ) → m ≡ a - 1 → n + (a - 1) < 2 ^ 64 → rounding.Rounded (bit_and (n + (a - 1)) ((2 ^ 64 - 1) - m)) ≡ reported (round_up n a)
-  round_masked n m e l =
-      let left = bit_and (n + (a - 1)) ((2 ^ 64 - 1) - (a - 1)) in
-      rw e (up_to (2 ^ 64 - 1) left (omega (arith, and_le_l (n + (a - 1)) ((2 ^ 64 - 1) - (a - 1)))) ∙ ap reported (cleared n l))
+      (n sum : ℕ) → sum ≡ n + (a - 1) → sum < 2 ^ 64 → Some (bit_and sum ((2 ^ 64 - 1) - (a - 1))) ≡ reported (round_up n a)
+  round_masked n sum e l =
+      let left = bit_and sum ((2 ^ 64 - 1) - (a - 1)) in
+      up_to (2 ^ 64 - 1) left (omega (arith, and_le_l sum ((2 ^ 64 - 1) - (a - 1)))) ∙ ap reported (rw e (cleared n (rw (← e) l)))
 
   -- a sum past 2^64 - 1 rounds past it
   pub round_past : (n : ℕ) → 2 ^ 64 ≤ n + (a - 1) → 2 ^ 64 ≤ round_up n a
   round_past n l = rw power.1 (past n power.0 exponent_small (rw (← power.1) l))
+
+  -- and is reported
+  pub past_reported : (n : ℕ) → 2 ^ 64 ≤ n + (a - 1) → None ≡ reported (round_up n a)
+  past_reported n l = up_past (2 ^ 64 - 1) (round_up n a) (omega (arith, round_past n l))

@@ -1,7 +1,5 @@
 -- Roundings and sums of scratch sizes as whole numbers, and what is reported of them; products; powers of two.
-use Rattle.std.specs.Prelude.{◌≡◌, Bool, false, ◌||◌, cond, ℕ, zero, suc, ◌+◌, ◌-◌, ◌*◌, ◌/◌, ◌^◌, min, eqb, leb}
-use Rattle.scratch.specs.declared.Rounding.{Rounding}
-use Rattle.scratch.specs.declared.Rounding.TheVariants as rounding
+use Rattle.std.specs.Prelude.{◌≡◌, Bool, false, ◌||◌, cond, ℕ, zero, suc, ◌+◌, ◌-◌, ◌*◌, ◌/◌, ◌^◌, min, eqb, leb, Option, Some, None}
 
 -- n, or 2^64 - 1 where n passes it: products in figures stop there
 abbrev pub stopped : ℕ → ℕ
@@ -12,11 +10,11 @@ abbrev pub round_up : ℕ → ℕ → ℕ
 round_up n a = (n + (a - 1)) / a * a
 
 -- n, or that it passed a limit
-abbrev pub or_passed : ℕ → ℕ → Rounding
-or_passed limit n = cond (leb n limit) (rounding.Rounded n) rounding.Passed
+abbrev pub or_passed : ℕ → ℕ → Option ℕ
+or_passed limit n = cond (leb n limit) (Some n) None
 
 -- "The rounding should report that it passed 2^64 - 1 instead of stopping there, its callers pass that on"
-abbrev pub reported : ℕ → Rounding
+abbrev pub reported : ℕ → Option ℕ
 reported n = or_passed (2 ^ 64 - 1) n
 
 -- "each size rounded up to the alignment", and added to a running total

@@ -1,4 +1,4 @@
--- A sheet's header judged, and a sheet by what its reader found: where each section starts, and how many records it has. Assumes nothing.
+-- A sheet's header judged, and a sheet by the sections that its reader found. Assumes nothing.
 use Rattle.std.specs.Prelude.{ℕ, false, not, List, [], ltb, length, get_or}
 use Rattle.wire.specs.Wire.{le_at}
 use Rattle.ray_tracing.specs.Layout.{layout}
@@ -12,22 +12,23 @@ judge_header s =
     and_next judged_when (not (taken (le_at 1 s 0))) (refused 1 0)
     and_next judge_records (begin 0 [] false) (layout 0).fields s 1 1
 
-abbrev pub section_in : List ℕ → List ℕ → ℕ → Section
-section_in start count k = record { start = get_or start k 0; count = get_or count k 0 }
+-- section k of those found
+abbrev pub found : List Section → ℕ → Section
+found sections k = get_or sections k (record { start = 0; count = 0 })
 
-abbrev pub sheet_from : List ℕ → List ℕ → List ℕ → Sheet
-sheet_from s start count =
+abbrev pub sheet_from : List ℕ → List Section → Sheet
+sheet_from s sections =
     record {
       version = version_in s;
       alignment = le_at 4 s 1;
       counter = le_at 8 s 5;
-      buffers = section_in start count 0;
-      blases = section_in start count 1;
-      declared = section_in start count 2;
-      tlases = section_in start count 3;
-      entries = section_in start count 4;
-      geometries = section_in start count 5;
-      packages = section_in start count 6;
-      slots = section_in start count 7;
-      actions = section_in start count 8;
+      buffers = found sections 0;
+      blases = found sections 1;
+      declared = found sections 2;
+      tlases = found sections 3;
+      entries = found sections 4;
+      geometries = found sections 5;
+      packages = found sections 6;
+      slots = found sections 7;
+      actions = found sections 8;
     }

@@ -1,11 +1,12 @@
 -- Laws of writes and of bytes that are kept or made zero: what is written back changes nothing, and a write leaves what stands past it.
-use Prim.Native.Nat.{ℕ, suc, ◌+◌, ◌-◌, ◌≤◌, ◌<◌}
+use Prim.Native.Nat.{ℕ, suc, ◌+◌, ◌≤◌}
 use native.Mathlib.Nat.{add-suc, suc-add}
 use native.Mathlib.Omega.{arith}
 use mathlib.Core.Bool.{Bool, true, false}
 use mathlib.Core.Path.{◌≡◌, refl, sym, ◌∙◌}
 use mathlib.Core.List.{List, [], ◌∷◌, ◌++◌, append_assoc}
 use lib.ListN.{length, take, drop, set, replicate, length-drop, length-replicate, replicate-append-replicate, take-append-drop}
+use borrow.Rule.Slice.PartMut.{put_mid}
 use lib.Seq.{sets, take-add, drop-set-lt, length-take-le, sets-eq, drop-drop}
 use Rattle.wire.proofs.Laws.{sets-append}
 use Rattle.sheet_clear.specs.Cleared.{kept_if}
@@ -29,12 +30,10 @@ pub write_next :
     → sets t p (f (drop p t)) ≡ sets s at (v ++ f (drop p s))
 write_next f v s at p h e = rw (e, ← h, drop-sets v s at) (sets-append v (f (drop (at + length v) s)) s at)
 
--- a turn of a loop that makes n bytes zero
-pub zeros_next : (s : List ℕ) (at i n : ℕ) → i < n → sets (set s (at + i) 0) (at + (i + 1)) (replicate (n - (i + 1)) 0) ≡ sets s (at + i) (replicate (n - i) 0)
-zeros_next s at i n h =
-    let e : n - i ≡ suc (n - (i + 1)) = omega arith in
-    let p : at + (i + 1) ≡ suc (at + i) = omega arith in
-    rw (e, p)
+-- a part of a slice that is filled with zeros
+pub zeros_put : (s : List ℕ) (at n : ℕ) → at + n ≤ length s → put_mid at n s (replicate n 0) ≡ sets s at (replicate n 0)
+zeros_put s at n h =
+    sym (sets-eq (replicate n 0) s at (rw length-replicate h) ∙ rw (length-replicate, append_assoc, ← drop-drop n at s))
 
 -- n bytes that are kept if they are used, and made zero if not
 

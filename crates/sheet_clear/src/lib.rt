@@ -12,19 +12,16 @@ ghost use Rattle.ray_tracing.specs.Meaning.{records_from, drawn_from};
 ghost use Rattle.ray_tracing.specs.Canonical.{held_canonical};
 ghost use Rattle.sheet_clear.specs.Cleared.{cleared_unless, has_unused, record_cleared, BlasesInside};
 
-use ray_tracing::{BLAS_SIZE, GEOMETRY_SIZE, NO_BUFFER, Version, both, geometry_size};
+use ray_tracing::{BLAS_SIZE, ENTRY_SIZE, GEOMETRY_SIZE, NO_BUFFER, Version, geometry_size};
 use sheet_layout::size_of;
 use wire::{u8_at, u16_at};
 
-fn clear(out: &mut [u8], at: usize, n: usize)
-    requires { at + n ≤ length out.old }
-    ensures { out.new ≡ sets out.old at (replicate n 0) }
-{
-    let mut i = 0;
-    while i < n {
-        out[at + i] = 0;
-        i += 1;
-    }
+// A section of a sheet of a version, by its number in the sheet's order, and the records of the section before.
+#[derive(Clone, Copy)]
+pub struct Section<'a> {
+    pub version: Version,
+    pub number: usize,
+    pub before: &'a [u8],
 }
 
 fn clear_unless(out: &mut [u8], at: usize, n: usize, used: bool)
@@ -32,7 +29,7 @@ fn clear_unless(out: &mut [u8], at: usize, n: usize, used: bool)
     ensures { out.new ≡ cleared_unless used out.old at n }
 {
     if !used {
-        clear(out, at, n);
+        out[at..at + n].fill(0);
     }
 }
 
@@ -43,7 +40,7 @@ fn clear_declared_of(out: &mut [u8], at: usize, boxes: bool)
         out.new ≡ sets out.old at (record_cleared v 3 c out.old at) }
 {
     let triangles = !boxes;
-    let counted = both(triangles, u8_at(out, at + 13) != 0);
+    let counted = triangles && u8_at(out, at + 13) != 0;
     clear_unless(out, at + 7, 7, triangles);
     clear_unless(out, at + 14, 4, counted);
 }
@@ -65,11 +62,11 @@ fn clear_geometry(version: Version, out: &mut [u8], at: usize, boxes: bool)
 {
     let at = at + (geometry_size(version) - GEOMETRY_SIZE);
     let triangles = !boxes;
-    let counted = both(triangles, u8_at(out, at + 23) != 0);
-    let indexed = both(triangles, u16_at(out, at + 21) != NO_BUFFER);
-    let first = both(indexed, u8_at(out, at + 28) != 0);
-    let transformed = both(triangles, u16_at(out, at + 33) != NO_BUFFER);
-    let offset = both(transformed, u8_at(out, at + 35) != 0);
+    let counted = triangles && u8_at(out, at + 23) != 0;
+    let indexed = triangles && u16_at(out, at + 21) != NO_BUFFER;
+    let first = indexed && u8_at(out, at + 28) != 0;
+    let transformed = triangles && u16_at(out, at + 33) != NO_BUFFER;
+    let offset = transformed && u8_at(out, at + 35) != 0;
     clear_unless(out, at + 19, 5, triangles);
     clear_unless(out, at + 24, 4, counted);
     clear_unless(out, at + 28, 1, indexed);
@@ -97,59 +94,44 @@ fn clear_action(out: &mut [u8], at: usize)
     clear_unless(out, at + 1, 2, operand);
 }
 
-// A record of a section that has fields which may be unused; `before` is the records of the section before, and `boxes` whether the
-// record's kind is boxes.
-fn clear_record(
-    version: Version,
-    out: &mut [u8],
-    at: usize,
-    section: usize,
-    before: &[u8],
-    boxes: bool,
-)
-    requires { ((section < 10) × (has_unused section ≡ true))
-        × ((at + size_in version section ≤ length out.old) × BlasesInside section before.now out.old at 1) }
+// A record of a section that has fields which may be unused; `boxes` is whether the record's kind is boxes.
+fn clear_record(section: &Section<'_>, out: &mut [u8], at: usize, boxes: bool)
+    requires { ((section.now.number < 10) × (has_unused section.now.number ≡ true))
+        × ((at + size_in section.now.version section.now.number ≤ length out.old)
+        × BlasesInside section.now.number section.now.before.now out.old at 1) }
     ensures { out.new ≡
         sets out.old at
-        (record_cleared version section (begin (size_in version (section - 1)) before.now boxes) out.old at) }
+        (record_cleared section.now.version section.now.number
+        (begin (size_in section.now.version (section.now.number - 1)) section.now.before.now boxes) out.old at) }
 {
-    match section {
-        3 => clear_declared(out, at, before),
-        6 => clear_geometry(version, out, at, boxes),
+    match section.number {
+        3 => clear_declared(out, at, section.before),
+        6 => clear_geometry(section.version, out, at, boxes),
         8 => clear_slot(out, at),
         _ => clear_action(out, at),
     }
 }
 
 // n records, from a place on.
-pub fn clear_records(
-    version: Version,
-    out: &mut [u8],
-    at: usize,
-    n: usize,
-    section: usize,
-    before: &[u8],
-    boxes: bool,
-)
-    requires { ((section < 10) × (has_unused section ≡ true))
-        × ((at + n * size_in version section ≤ length out.old) × BlasesInside section before.now out.old at n) }
+pub fn clear_records(section: &Section<'_>, out: &mut [u8], at: usize, n: usize, boxes: bool)
+    requires { ((section.now.number < 10) × (has_unused section.now.number ≡ true))
+        × ((at + n * size_in section.now.version section.now.number ≤ length out.old)
+        × BlasesInside section.now.number section.now.before.now out.old at n) }
     ensures { out.new ≡
         sets out.old at
         (flatten
-        (map (held_canonical version section)
+        (map (held_canonical section.now.version section.now.number)
         (records_from
-        (begin (size_in version (section - 1)) before.now boxes)
-        (size_in version section)
+        (begin (size_in section.now.version (section.now.number - 1)) section.now.before.now boxes)
+        (size_in section.now.version section.now.number)
         (drop at out.old)
         n))) }
 {
-    let size = size_of(version, section);
+    let size = size_of(section.version, section.number);
     let mut p = at;
-    let mut left = n;
-    while 0 < left {
-        clear_record(version, out, p, section, before, boxes);
+    for _ in 0..n {
+        clear_record(section, out, p, boxes);
         p += size;
-        left -= 1;
     }
 }
 
@@ -162,17 +144,19 @@ pub fn clear_drawn(version: Version, out: &mut [u8], at: usize, entries: &[u8])
         (map (held_canonical version 6)
         (drawn_from version entries.now 0 (drop at out.old) (length entries.now / size 5)))) }
 {
-    let each = size_of(version, 5);
+    let section = Section {
+        version,
+        number: 6,
+        before: entries,
+    };
     let size = size_of(version, 6);
     let mut p = at;
     let mut q = 0;
-    let mut left = entries.len() / each;
-    while 0 < left {
+    for _ in 0..entries.len() / ENTRY_SIZE {
         let boxes = u8_at(entries, q + 2) == 1;
         let n = u16_at(entries, q + 3) as usize;
-        clear_records(version, out, p, n, 6, entries, boxes);
+        clear_records(&section, out, p, n, boxes);
         p += n * size;
-        q += each;
-        left -= 1;
+        q += ENTRY_SIZE;
     }
 }

@@ -3,6 +3,7 @@
 use Prim.Native.Nat.{ℕ, ◌+◌, ◌-◌, ◌*◌, ◌/◌, ◌≤◌, ◌<◌}
 use native.Mathlib.Nat.{mul-div_cancel}
 use native.Mathlib.Omega.{arith}
+use Rattle.std.specs.Prelude.{Err}
 use mathlib.Core.Bool.{cond}
 use mathlib.Core.Path.{◌≡◌, refl, sym, ap, ◌∙◌}
 use mathlib.Core.List.{List, [], ◌∷◌, ◌++◌}
@@ -14,17 +15,20 @@ use Rattle.wire.specs.Wire.{le_at, le_bytes}
 use Rattle.wire.proofs.Laws.{sets-append}
 use Rattle.ray_tracing.specs.declared.Version.{Version}
 use Rattle.ray_tracing.specs.declared.Version.TheVariants as version
+use Rattle.ray_tracing.specs.declared.Sheet.{Sheet}
+use Rattle.ray_tracing.specs.declared.ConvertSheetError.{ConvertSheetError}
+use Rattle.ray_tracing.specs.declared.ConvertSheetError.TheVariants as convert-sheet
 use Rattle.ray_tracing.specs.Layout.{version_number, size, size_in}
 use Rattle.ray_tracing.specs.Layout as layout
-use Rattle.ray_tracing.specs.Reading.{fine, refused, judge_lent, past, from, table, rejected, read_sheet}
+use Rattle.ray_tracing.specs.Reading.{fine, judge_lent, version_in, past, from, table, section_of, accepted, rejected, read_sheet}
 use Rattle.ray_tracing.specs.Canonical.{wrote, unwritten}
-use Rattle.ray_tracing.specs.Conversion.{other, converted_table, converted_records, converted, judge_offsets, unless_refused, convert_rule, Converts}
+use Rattle.ray_tracing.specs.Conversion.{other, converted_table, converted_records, converted, judge_offsets, unless_refused, convert_rule, converting_of, Converts}
 use Rattle.ray_tracing.proofs.Each.{size-positive}
 use Rattle.ray_tracing.proofs.Reading.{past_more, from_more}
 use Rattle.ray_tracing.proofs.Sheets.{accepted-version, accepted-whole, accepted-length, accepted-lent}
 use Rattle.ray_tracing.proofs.Converted as Converted
 use Rattle.ray_tracing.proofs.Conversion.{there-length}
-use Rattle.sheet_convert.specs.Judged.{Taken}
+use Rattle.sheet_convert.specs.Judged.{offsets_of, Taken}
 use Rattle.sheet_convert.proofs.Laws.{records_first}
 
 -- ---- before the sheet is read
@@ -51,26 +55,21 @@ module _ (w : Version) (s out : List ℕ) where
 
 -- ---- a sheet that is read, and of the other version
 
--- neither size is twice the other
-pub wider : (v w : Version) (n : ℕ) → n * size_in w 6 ≤ 2 * (n * size_in v 6)
-wider version.One version.One n = omega arith
-wider version.One version.Two n = omega arith
-wider version.Two version.One n = omega arith
-wider version.Two version.Two n = omega arith
-
 version_byte : (w : Version) → le_bytes 1 (version_number w) ≡ version_number w ∷ []
 unfolding le_bytes
 version_byte version.One = refl
 version_byte version.Two = refl
 
+-- where its geometries stand
+pub stands :
+    (v : Version) (s : List ℕ) (x : Sheet)
+    → read_sheet s ≡ accepted x
+    → version_in s ≡ v
+    → (13 ≤ (section_of s 5).start) × ((section_of s 5).start + (section_of s 5).count * size_in v 6 ≤ length s)
+unfolding past
+stands v s x r k = (omega arith, rw k at (accepted-whole s x r 5 (lit< tt)))
+
 module _ {v w : Version} {s : List ℕ} {at n : ℕ} (t : Taken v w s at n) where
-  whole : at + n * size_in v 6 ≤ length s
-  whole = rw (t.there.0, t.there.1) (rw t.known at (accepted-whole s t.sheet t.read 5 (lit< tt)))
-
-  pub stands : (13 ≤ at) × (at + n * size_in v 6 ≤ length s)
-  unfolding past
-  stands = (omega (arith, t.there.0), whole)
-
   from_is : at ≡ from s 6
   from_is = t.there.0 ∙ sym (from_more s 5)
 
@@ -85,7 +84,7 @@ module _ {v w : Version} {s : List ℕ} {at n : ℕ} (t : Taken v w s at n) wher
   pub long : length s - n * size_in v 6 + n * size_in w 6 ≡ length (converted w s)
   long =
       let l = rw (← count_is) at (there-length v w t.way s t.sheet t.read t.known) in
-      omega (arith, l, whole)
+      omega (arith, l, t.inside)
 
   geometries : converted_records v w (drop at s) n ≡ converted_table v w (table s 6)
   geometries =
@@ -112,11 +111,11 @@ module _ {v w : Version} {s : List ℕ} {at n : ℕ} (t : Taken v w s at n) wher
       let y = take (at - 1) (drop 1 s) in
       let z = converted_records v w (drop at s) n in
       let r = drop (at + n * size_in v 6) s in
-      let ly : length y ≡ at - 1 = length-take-le (at - 1) (drop 1 s) (rw length-drop (omega (arith, stands))) in
+      let ly : length y ≡ at - 1 = length-take-le (at - 1) (drop 1 s) (rw length-drop (omega (arith, t.starts, t.inside))) in
       let lz : length z ≡ n * size_in w 6 =
       ap length geometries ∙ Converted.table-length v w (table s 5) (table s 6) lent ∙ ap (λ (k : ℕ). k * size_in w 6) (sym count_is) in
       let p : at + n * size_in w 6 ≡ at + length z = omega (arith, lz) in
-      let q : at ≡ 1 + length y = omega (arith, ly, stands) in
+      let q : at ≡ 1 + length y = omega (arith, ly, t.starts) in
       d
       ∙ ap (λ (u : List ℕ). sets u (at + n * size_in w 6) r) c
       ∙ ap (λ (k : ℕ). sets (sets out₂ at z) k r) p
@@ -138,7 +137,7 @@ module _ {v w : Version} {s : List ℕ} {at n : ℕ} (t : Taken v w s at n) wher
   rule_is room =
       let k = accepted-version s t.sheet t.read ∙ ap version_number (t.known ∙ sym t.way) in
       rw (
-        le-ltb (length s) 1 (omega (arith, stands)),
+        le-ltb (length s) 1 (omega (arith, t.starts, t.inside)),
         eq-eqb (le_at 1 s 0) (version_number (other w)) k,
         t.read,
         t.way,
@@ -147,8 +146,10 @@ module _ {v w : Version} {s : List ℕ} {at n : ℕ} (t : Taken v w s at n) wher
       )
 
   module _ (out : List ℕ) where
-    pub far_call : (q : ℕ) → refused 47 q ≡ judge_offsets v w s at n → Converts w s out (unwritten 47 q) out
-    far_call q e = record { answer = rw (rule_is (length out), ← e); left = rw (rule_is (length out), ← e) }
+    pub far_call : (r : ConvertSheetError) → offsets_of (Err r) ≡ judge_offsets v w s at n → Converts w s out (converting_of (Err r)) out
+    far_call (convert-sheet.Malformed r) e = record { answer = rw (rule_is (length out), ← e); left = rw (rule_is (length out), ← e) }
+    far_call (convert-sheet.OffsetTooFar p) e = record { answer = rw (rule_is (length out), ← e); left = rw (rule_is (length out), ← e) }
+    far_call convert-sheet.OutputTooShort e = record { answer = rw (rule_is (length out), ← e); left = rw (rule_is (length out), ← e) }
 
     module _ (e : fine ≡ judge_offsets v w s at n) where
       pub short-call : length out < length (converted w s) → Converts w s out (unwritten 39 0) out

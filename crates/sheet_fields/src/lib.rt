@@ -1,265 +1,298 @@
-// Records judged field by field, by one table of fields.
+// Records judged field by field, by a table of fields for each section.
 #![tactic(auto)]
 
-ghost use Rattle.std.specs.Prelude.{◌≡◌, true, false, ℕ, ◌+◌, ◌-◌, ◌*◌, ◌/◌, ◌%◌, ◌≤◌, ◌<◌, List, length, get_or};
+ghost use Rattle.std.specs.Prelude.{◌≡◌, IsTrue, Bool, ℕ, List, ◌+◌, ◌≤◌, ◌<◌, length, map};
 ghost use Rattle.wire.specs.Wire.{le_at};
-ghost use Rattle.ray_tracing.specs.Layout.{layout_in, size_in, offset_width};
-ghost use Rattle.ray_tracing.specs.Reading.{begin, judge_fields, judge_records};
+ghost use Rattle.ray_tracing.specs.declared.Version.{Version};
+ghost use Rattle.ray_tracing.specs.Layout.{layout_in, size_in};
+ghost use Rattle.ray_tracing.specs.Reading.{fine, begin, judge_fields, judge_records};
 ghost use Rattle.ray_tracing.specs.Code.{judged_of};
-ghost use Rattle.sheet_fields.specs.Table.{firsts, ruled, seen, judge_views, rule_of, fields_from, is_width, Widths};
+ghost use Rattle.sheet_fields.specs.Table.{seen, view, view_of, judge_views, bytes_of, contain, fits_of};
 
-use ray_tracing::{Judged, SheetError, Version, both, either, pick};
+use Rule::{Always, Any, Blas, OrNone, Triangles, WithBuffer};
+use Values::{NotNone, OneTo, Positive, UpTo, ZeroOr};
+use Width::{Offset, U8, U16, U32, U64};
+use ray_tracing::{NO_BUFFER, SheetError, SheetRefusal, Version};
 use sheet_fits::record_fits;
-use sheet_layout::{records_in, size_of};
+use sheet_layout::{Before, size_of};
 use wire::{u8_at, u16_at, u32_at, u64_at};
 
-// The rules of `fits` by number, and two more: a Blas of section 2, and an id that may be 65535, none.
-const A_BLAS: u8 = 12;
+// How wide a field is; the geometries' offset as the version has it.
+#[derive(Clone, Copy)]
+enum Width {
+    U8,
+    U16,
+    U32,
+    U64,
+    Offset,
+}
 
-const OR_NONE: u8 = 13;
+// The values that a field may have.
+#[derive(Clone, Copy)]
+enum Values {
+    UpTo(u8),
+    ZeroOr(u8),
+    OneTo(u8),
+    Positive,
+    NotNone,
+}
 
-// The sheet's fields, a byte for each: 16 times its width, and the number of its rule.
-const FIELDS: [u8; 63] = [
-    // after the version
-    0x47, // scratch alignment: not 0
-    0x80, // counter
-    // 1. buffers
-    0x80, // size
-    0x13, // marks: 0 to 3
-    // 2. Blases
-    0x11, // kind: 0 or 1
-    0x14, // flags: 0 to 7
-    0x13, // state: 0 to 3
-    0x11, // destroyed: 0 or 1
-    0x80, // scratch
-    0x80, // address
-    0x80, // number
-    // 3. declared geometries
-    0x2c, // Blas: of section 2, whose kind goes for the record
-    0x10, // flags
-    0x40, // vertex or box count
-    0x10, // vertex format
-    0x20, // least stride
-    0x28, // stride alignment: not 0, of triangles
-    0x19, // index format: 0 to 2, of triangles
-    0x1a, // present: 0 or 1, of triangles
-    0x40, // index count
-    // 4. Tlases
-    0x15, // flags: 0 or 2
-    0x11, // destroyed: 0 or 1
-    0x80, // scratch
-    0x40, // most instances
-    0x80, // number
-    // 5. entries
-    0x20, // Blas
-    0x11, // kind: 0 or 1
-    0x20, // geometry count
-    // 6. geometries
-    0x10, // flags
-    0x40, // count
-    0x40, // first vertex or primitive offset, as version 1 has it
-    0x80, // stride
-    0x22, // buffer: not 65535
-    0x10, // vertex format
-    0x19, // index format: 0 to 2, of triangles
-    0x2d, // index buffer, or none
-    0x1a, // present: 0 or 1, of triangles
-    0x40, // index count
-    0x1b, // present: 0 or 1, of triangles with an index buffer
-    0x40, // first index
-    0x2d, // transform buffer, or none
-    0x1b, // present: 0 or 1, of triangles with a transform buffer
-    0x80, // transform offset
-    // 7. packages
-    0x20, // Tlas
-    0x20, // slot count
-    // 8. slots
-    0x11, // present: 0 or 1
-    0x20, // Blas
-    0x40, // custom data
-    0x10, // mask
-    0x40, // transform
-    0x40, 0x40, 0x40, 0x40, 0x40, 0x40, 0x40, 0x40, 0x40, 0x40, 0x40,
-    // 9. actions
-    0x16, // kind: 1 to 4
-    0x20, // operand
+// What is judged of a field: its values always, of triangles, or of triangles with the buffer before it; that it is a Blas of
+// section 2, whose kind goes for the record. An id that may be none is any. No field behind a present byte is judged.
+#[derive(Clone, Copy)]
+enum Rule {
+    Any,
+    Always(Values),
+    Triangles(Values),
+    WithBuffer(Values),
+    Blas,
+    OrNone,
+}
+
+#[derive(Clone, Copy)]
+struct Field(Width, Rule);
+
+// After the version.
+const HEADER: [Field; 2] = [
+    Field(U32, Always(Positive)), // scratch alignment
+    Field(U64, Any), // counter
 ];
 
-// Which of them is the geometries' offset.
-const OFFSET: usize = 30;
+const BUFFERS: [Field; 2] = [
+    Field(U64, Any), // size
+    Field(U8, Always(UpTo(3))), // marks
+];
 
-// Where a section's fields begin, and end where the next one's do.
-const FIRST: [usize; 11] = [0, 2, 4, 11, 20, 25, 28, 43, 45, 61, 63];
+const BLASES: [Field; 7] = [
+    Field(U8, Always(UpTo(1))), // kind
+    Field(U8, Always(UpTo(7))), // flags
+    Field(U8, Always(UpTo(3))), // state
+    Field(U8, Always(UpTo(1))), // destroyed
+    Field(U64, Any), // scratch
+    Field(U64, Any), // address
+    Field(U64, Any), // number
+];
 
-// Past the last of them that has a rule.
-const RULED: [usize; 10] = [1, 4, 8, 19, 22, 27, 42, 43, 46, 62];
+const DECLARED: [Field; 9] = [
+    Field(U16, Blas),
+    Field(U8, Any), // flags
+    Field(U32, Any), // vertex or box count
+    Field(U8, Any), // vertex format
+    Field(U16, Any), // least stride
+    Field(U16, Triangles(Positive)), // stride alignment
+    Field(U8, Triangles(UpTo(2))), // declared index format
+    Field(U8, Triangles(UpTo(1))), // present
+    Field(U32, Any), // index count
+];
 
-fn first_of(section: usize) -> usize
-    requires { section < 11 }
-    ensures { result ≡ get_or firsts section 0 }
-{
-    FIRST[section]
-}
+const TLASES: [Field; 5] = [
+    Field(U8, Always(ZeroOr(2))), // flags
+    Field(U8, Always(UpTo(1))), // destroyed
+    Field(U64, Any), // scratch
+    Field(U32, Any), // most instances
+    Field(U64, Any), // number
+];
 
-fn ruled_of(section: usize) -> usize
+const ENTRIES: [Field; 3] = [
+    Field(U16, Any), // Blas
+    Field(U8, Always(UpTo(1))), // kind
+    Field(U16, Any), // geometry count
+];
+
+const GEOMETRIES: [Field; 15] = [
+    Field(U8, Any), // flags
+    Field(U32, Any), // count
+    Field(Offset, Any), // first vertex or primitive offset
+    Field(U64, Any), // stride
+    Field(U16, Always(NotNone)), // buffer
+    Field(U8, Any), // vertex format
+    Field(U8, Triangles(UpTo(2))), // index format
+    Field(U16, OrNone), // index buffer
+    Field(U8, Triangles(UpTo(1))), // present
+    Field(U32, Any), // index count
+    Field(U8, WithBuffer(UpTo(1))), // present
+    Field(U32, Any), // first index
+    Field(U16, OrNone), // transform buffer
+    Field(U8, WithBuffer(UpTo(1))), // present
+    Field(U64, Any), // transform offset
+];
+
+const PACKAGES: [Field; 2] = [
+    Field(U16, Any), // Tlas
+    Field(U16, Any), // slot count
+];
+
+const SLOTS: [Field; 16] = [
+    Field(U8, Always(UpTo(1))), // present
+    Field(U16, Any), // Blas
+    Field(U32, Any), // custom data
+    Field(U8, Any), // mask
+    Field(U32, Any), // transform
+    Field(U32, Any),
+    Field(U32, Any),
+    Field(U32, Any),
+    Field(U32, Any),
+    Field(U32, Any),
+    Field(U32, Any),
+    Field(U32, Any),
+    Field(U32, Any),
+    Field(U32, Any),
+    Field(U32, Any),
+    Field(U32, Any),
+];
+
+const ACTIONS: [Field; 2] = [
+    Field(U8, Always(OneTo(4))), // kind
+    Field(U16, Any), // operand
+];
+
+// The fields of a section; the header stands as section 0.
+fn fields_of(section: usize) -> &'static [Field]
     requires { section < 10 }
-    ensures { result ≡ get_or ruled section 0 }
+    ensures { (v : Version) → map (view_of v) result.now ≡ map view (layout_in v section).fields }
 {
-    RULED[section]
-}
-
-// The geometries' offset: any value, of the width that the version gives it.
-fn offset_field(version: Version) -> u8
-    ensures { result ≡ 16 * offset_width version }
-{
-    match version {
-        Version::One => 0x40,
-        Version::Two => 0x80,
-    }
-}
-
-fn number_at(s: &[u8], at: usize, width: usize) -> u64
-    requires { (at + width ≤ length s.now) × (is_width width ≡ true) }
-    ensures { result ≡ le_at width s.now at }
-{
-    if width == 1 {
-        return u8_at(s, at) as u64;
-    }
-    if width == 2 {
-        return u16_at(s, at) as u64;
-    }
-    if width == 4 {
-        return u32_at(s, at) as u64;
-    }
-    u64_at(s, at)
-}
-
-// Whether a value is in its field, by the number of the rule.
-fn fits(rule: u8, boxes: bool, none: bool, v: u64) -> bool
-    ensures { (t : List ℕ) (w : ℕ) → result ≡ rule_of rule (seen t w boxes none) v }
-{
-    match rule {
-        0 => true,
-        1 => v <= 1,
-        2 => v != 65535,
-        3 => v <= 3,
-        4 => v <= 7,
-        5 => either(v == 0, v == 2),
-        6 => both(0 < v, v <= 4),
-        7 => 0 < v,
-        8 => either(0 < v, boxes),
-        9 => either(v <= 2, boxes),
-        10 => either(v <= 1, boxes),
-        11 => either(v <= 1, either(boxes, none)),
-        _ => true,
+    match section {
+        0 => &HEADER,
+        1 => &BUFFERS,
+        2 => &BLASES,
+        3 => &DECLARED,
+        4 => &TLASES,
+        5 => &ENTRIES,
+        6 => &GEOMETRIES,
+        7 => &PACKAGES,
+        8 => &SLOTS,
+        _ => &ACTIONS,
     }
 }
 
-// A record's fields, those of the table from `first` up to `end`. `before` is the records of the section before, `each` bytes each and
-// `count` of them, and `boxes` whether the record's kind is boxes.
+impl Width {
+    fn bytes(self, version: Version) -> usize
+        ensures { result ≡ bytes_of version self }
+    {
+        match (self, version) {
+            (U8, _) => 1,
+            (U16, _) => 2,
+            (U32, _) | (Offset, Version::One) => 4,
+            (U64, _) | (Offset, Version::Two) => 8,
+        }
+    }
+}
+
+impl Values {
+    fn contain(self, v: u64) -> bool
+        ensures { result ≡ contain self v }
+    {
+        match self {
+            UpTo(n) => v <= u64::from(n),
+            ZeroOr(n) => v == 0 || v == u64::from(n),
+            OneTo(n) => 0 < v && v <= u64::from(n),
+            Positive => 0 < v,
+            NotNone => v != u64::from(NO_BUFFER),
+        }
+    }
+}
+
+impl Rule {
+    fn fits(self, before: &Before<'_>, boxes: bool, none: bool, v: u64) -> bool
+        ensures { result ≡ fits_of self (seen before.now.records.now before.now.each boxes none) v }
+    {
+        match self {
+            Any | OrNone => true,
+            Always(values) => values.contain(v),
+            Triangles(values) => boxes || values.contain(v),
+            WithBuffer(values) => boxes || none || values.contain(v),
+            Blas => (v as usize) < before.count,
+        }
+    }
+}
+
+fn number_at(s: &[u8], at: usize, width: Width, version: Version) -> u64
+    requires { at + bytes_of version width ≤ length s.now }
+    ensures { result ≡ le_at (bytes_of version width) s.now at }
+{
+    match (width, version) {
+        (U8, _) => u64::from(u8_at(s, at)),
+        (U16, _) => u64::from(u16_at(s, at)),
+        (U32, _) | (Offset, Version::One) => u64::from(u32_at(s, at)),
+        (U64, _) | (Offset, Version::Two) => u64_at(s, at),
+    }
+}
+
+// A record's fields, from a place on. `boxes` is whether the record's kind is boxes.
 fn judge_fields(
+    version: Version,
     s: &[u8],
     at: usize,
-    fields: &[u8; 63],
-    first: usize,
-    end: usize,
-    before: &[u8],
-    each: usize,
-    count: usize,
+    fields: &[Field],
+    before: &Before<'_>,
     boxes: bool,
-) -> Judged
-    requires { ((at ≤ length s.now) × (count ≡ length before.now / each)) × ((end ≤ 63) × Widths fields.now) }
-    ensures { judged_of result ≡
-        judge_views
-        (begin each before.now boxes)
-        s.now
-        at
-        (fields_from fields.now first (end - first)) }
+) -> Result<(), SheetRefusal>
+    requires { at ≤ length s.now }
+    ensures { judged_of result
+        ≡ judge_views (begin before.now.each before.now.records.now boxes) s.now at (map (view_of version) fields.now) }
 {
-    let mut k = first;
     let mut p = at;
     let mut boxes = boxes;
     let mut none = false;
-    while k < end {
+    for field in fields {
         let here = p;
-        let code = fields[k];
-        let width = (code / 16) as usize;
-        let rule = code % 16;
-        if s.len() - here < width {
-            return Judged::Refused(SheetError::Truncated, here);
+        let bytes = field.0.bytes(version);
+        if s.len() - here < bytes {
+            return Err(SheetRefusal {
+                error: SheetError::Truncated,
+                place: p,
+            });
         }
-        p = here + width;
-        k += 1;
-        if rule == 0 {
-            continue;
+        p += bytes;
+        let v = number_at(s, here, field.0, version);
+        if !field.1.fits(before, boxes, none, v) {
+            return Err(SheetRefusal {
+                error: SheetError::InvalidValue,
+                place: here,
+            });
         }
-        let v = number_at(s, here, width);
-        if rule == A_BLAS {
-            let i = v as usize;
-            if count <= i {
-                return Judged::Refused(SheetError::InvalidValue, here);
-            }
-            boxes = before[i * each] == 1;
-            continue;
-        }
-        if rule == OR_NONE {
-            none = v == 65535;
-            continue;
-        }
-        if !fits(rule, boxes, none, v) {
-            return Judged::Refused(SheetError::InvalidValue, here);
+        match field.1 {
+            Blas => boxes = before.records[v as usize * before.each] == 1,
+            OrNone => none = v == u64::from(NO_BUFFER),
+            _ => {}
         }
     }
-    Judged::Fine
+    Ok(())
 }
 
-// A record by the table of fields. In a record that is whole the fields after the last rule need no look.
-fn judge_by_table(
+// Whether a record of `size` bytes is whole and its values fit, as of nearly every one.
+fn whole_fits(
     version: Version,
     s: &[u8],
     at: usize,
     section: usize,
     size: usize,
-    before: &[u8],
-    each: usize,
-    count: usize,
+    before: &Before<'_>,
     boxes: bool,
-) -> Judged
-    requires { ((at ≤ length s.now) × (section < 10))
-        × ((size ≡ size_in version section) × (count ≡ length before.now / each)) }
-    ensures { judged_of result ≡ judge_fields (begin each before.now boxes) s.now at (layout_in version section).fields }
+) -> bool
+    requires { ((at ≤ length s.now) × (section < 10)) × (size ≡ size_in version section) }
+    ensures { IsTrue result
+        → judge_fields (begin before.now.each before.now.records.now boxes) s.now at (layout_in version section).fields ≡ fine }
 {
-    let mut fields = FIELDS;
-    fields[OFFSET] = offset_field(version);
-    let first = first_of(section);
-    let end = first_of(section + 1);
-    let ruled = ruled_of(section);
-    let stop = pick(size <= s.len() - at, ruled, end);
-    judge_fields(s, at, &fields, first, stop, before, each, count, boxes)
+    size <= s.len() - at && record_fits(version, s, at, section, before, boxes)
 }
 
-// One record of `size` bytes: nearly every one is whole and fits.
+// Any other record. A call of its own, so that the loop over records keeps its numbers in registers.
+#[cold]
+#[inline(never)]
 fn judge_record(
     version: Version,
     s: &[u8],
     at: usize,
     section: usize,
-    size: usize,
-    before: &[u8],
-    each: usize,
-    count: usize,
+    before: &Before<'_>,
     boxes: bool,
-) -> Judged
-    requires { ((at ≤ length s.now) × (section < 10))
-        × ((size ≡ size_in version section) × (count ≡ length before.now / each)) }
-    ensures { judged_of result ≡ judge_fields (begin each before.now boxes) s.now at (layout_in version section).fields }
+) -> Result<(), SheetRefusal>
+    requires { (at ≤ length s.now) × (section < 10) }
+    ensures { judged_of result
+        ≡ judge_fields (begin before.now.each before.now.records.now boxes) s.now at (layout_in version section).fields }
 {
-    if size <= s.len() - at {
-        if record_fits(version, s, at, section, before, each, count, boxes) {
-            return Judged::Fine;
-        }
-    }
-    judge_by_table(version, s, at, section, size, before, each, count, boxes)
+    judge_fields(version, s, at, fields_of(section), before, boxes)
 }
 
 // n records of a section, from a place on.
@@ -272,21 +305,18 @@ pub fn judge_records(
     before: &[u8],
     each: usize,
     boxes: bool,
-) -> Judged
+) -> Result<(), SheetRefusal>
     requires { (at ≤ length s.now) × (section < 10) }
     ensures { judged_of result ≡ judge_records (begin each before.now boxes) (layout_in version section).fields s.now at n }
 {
     let size = size_of(version, section);
-    let count = records_in(before.len(), each);
+    let records = Before::new(before, each);
     let mut p = at;
-    let mut left = n;
-    while 0 < left {
-        let judged = judge_record(version, s, p, section, size, before, each, count, boxes);
-        let Judged::Fine = judged else {
-            return judged;
-        };
+    for _ in 0..n {
+        if !whole_fits(version, s, p, section, size, &records, boxes) {
+            judge_record(version, s, p, section, &records, boxes)?;
+        }
         p += size;
-        left -= 1;
     }
-    Judged::Fine
+    Ok(())
 }

@@ -5,7 +5,10 @@ ghost use Rattle.std.specs.Prelude.{◌≡◌, ◌+◌, ◌/◌, ◌≤◌, ◌<
 ghost use Rattle.ray_tracing.specs.Layout.{layout, size, size_in};
 ghost use Rattle.ray_tracing.specs.Reading.{sum_of_counts, adds_up, version_in};
 
-use ray_tracing::{ENTRY_SIZE, GEOMETRY_SIZE, PACKAGE_SIZE, Version, geometry_size, pick};
+use ray_tracing::{
+    ACTION_SIZE, BLAS_SIZE, BUFFER_SIZE, DECLARED_SIZE, ENTRY_SIZE, GEOMETRY_SIZE, PACKAGE_SIZE,
+    SLOT_SIZE, TLAS_SIZE, Version, geometry_size,
+};
 use wire::{u8_at, u16_at};
 
 // The version of a sheet whose version byte is 1 or 2.
@@ -14,27 +17,29 @@ pub fn version_in(sheet: &[u8]) -> Version
     ensures { result ≡ version_in sheet.now }
 {
     if u8_at(sheet, 0) == 2 {
-        return Version::Two;
+        Version::Two
+    } else {
+        Version::One
     }
-    Version::One
 }
 
-// A record's size in version 1.
+// A record's size in version 1. A section goes by its number in the sheet, as the reader counts them: an enum would be made from that
+// number, and turned back for the section before.
 fn narrow_size(section: usize) -> usize
     requires { section < 10 }
     ensures { result ≡ size section }
 {
     match section {
         0 => 12,
-        1 => 9,
-        2 => 28,
-        3 => 18,
-        4 => 22,
-        5 => 5,
+        1 => BUFFER_SIZE,
+        2 => BLAS_SIZE,
+        3 => DECLARED_SIZE,
+        4 => TLAS_SIZE,
+        5 => ENTRY_SIZE,
         6 => GEOMETRY_SIZE,
-        7 => 4,
-        8 => 56,
-        _ => 3,
+        7 => PACKAGE_SIZE,
+        8 => SLOT_SIZE,
+        _ => ACTION_SIZE,
     }
 }
 
@@ -43,8 +48,11 @@ pub fn size_of(version: Version, section: usize) -> usize
     requires { section < 10 }
     ensures { result ≡ size_in version section }
 {
-    let wider = geometry_size(version) - GEOMETRY_SIZE;
-    narrow_size(section) + pick(section == 6, wider, 0)
+    if section == 6 {
+        geometry_size(version)
+    } else {
+        narrow_size(section)
+    }
 }
 
 // The most records of a section.
@@ -87,6 +95,27 @@ pub fn records_in(bytes: usize, each: usize) -> usize
     }
 }
 
+// The records of the section before, `each` bytes each: an id may name one of them, so how many there are is known once and for all.
+#[derive(Clone, Copy)]
+pub struct Before<'a> {
+    pub records: &'a [u8],
+    pub each: usize,
+    pub count: usize,
+    ghost counted: { count ≡ length records.now / each },
+}
+
+impl<'a> Before<'a> {
+    pub fn new(records: &'a [u8], each: usize) -> Before<'a>
+        ensures { (result.records ≡ records.entry) × (result.each ≡ each) }
+    {
+        Before {
+            records,
+            each,
+            count: records_in(records.len(), each),
+        }
+    }
+}
+
 // Whether the counts at `offset` of all records of `width` bytes add up to n.
 fn sums_to(t: &[u8], width: usize, offset: usize, n: usize) -> bool
     requires { (offset + 2 ≤ width) × (width < 64) }
@@ -94,20 +123,15 @@ fn sums_to(t: &[u8], width: usize, offset: usize, n: usize) -> bool
 {
     let mut q = offset;
     let mut rest = n;
-    let mut left = t.len() / width;
-    while 0 < left {
-        let count = u16_at(t, q) as usize;
+    for _ in 0..t.len() / width {
+        let count = usize::from(u16_at(t, q));
         if rest < count {
             return false;
         }
         rest -= count;
         q += width;
-        left -= 1;
     }
-    if rest == 0 {
-        return true;
-    }
-    false
+    rest == 0
 }
 
 pub fn adds_up(section: usize, before: &[u8], n: usize) -> bool

@@ -72,6 +72,10 @@ module _ (s : List ℕ) (f : judge_sheet s ≡ fine) where
         let j : k + 1 - 1 ≡ k = omega arith in
         rw j (accepted-lent s x e k h)
 
+  -- the header is there
+  pub header_there : 13 ≤ length s
+  header_there = omega (arith, whole 0 (omega arith), first_past s)
+
   -- at most 128 Blases
   pub few-blases : (k : ℕ) → k < 9 → k + 1 ≡ 3 → length (table s k) / size 2 ≤ 128
   few-blases k h j =
@@ -130,8 +134,8 @@ module _ (s : List ℕ) (f : judge_sheet s ≡ fine) where
         → out₂ ≡ sets out₁ 1 (take 12 (drop 1 s))
         → out₂ ≡ sets out 0 (take 13 s)
     header-put out out₁ out₂ p q =
-        let i : le_bytes 1 (le_at 1 s 0) ≡ take 1 s = le_bytes-at 1 s 0 b (omega (arith, whole 0 (omega arith), first_past s)) in
-        let l : length (take 1 s) ≡ 1 = length-take-le 1 s (omega (arith, whole 0 (omega arith), first_past s)) in
+        let i : le_bytes 1 (le_at 1 s 0) ≡ take 1 s = le_bytes-at 1 s 0 b (omega (arith, header_there)) in
+        let l : length (take 1 s) ≡ 1 = length-take-le 1 s (omega (arith, header_there)) in
         q
         ∙ ap (λ (o : List ℕ). sets o 1 (take 12 (drop 1 s))) (p ∙ ap (sets out 0) i)
         ∙ ap (λ (n : ℕ). sets (sets out 0 (take 1 s)) n (take 12 (drop 1 s))) (sym l ∙ sym (zero-add (length (take 1 s))))
@@ -140,7 +144,7 @@ module _ (s : List ℕ) (f : judge_sheet s ≡ fine) where
 
     pub header_made : take 13 s ≡ header_bytes v (le_at 4 s 1) (le_at 8 s 5)
     header_made =
-        let l : 13 ≤ length s = omega (arith, whole 0 (omega arith), first_past s) in
+        let l = header_there in
         let i : take 1 s ≡ version_number v ∷ [] = sym (le_bytes-at 1 s 0 b (omega arith)) ∙ ap (le_bytes 1) (accepted-version s x e) ∙ one v in
         take-add 1 12 s
         ∙ rw i
@@ -166,3 +170,6 @@ module _ (s : List ℕ) (f : judge_sheet s ≡ fine) where
         ∙ ap (λ (o : List ℕ). sets o 13 (section_bytes v tables 0 9)) (p ∙ ap (sets out 0) header_made)
         ∙ ap (λ (n : ℕ). sets (sets out 0 t) n (section_bytes v tables 0 9)) (sym l ∙ sym (zero-add (length t)))
         ∙ sets-append t (section_bytes v tables 0 9) out 0
+
+-- where the header and the sections of an accepted sheet stand
+pub ruleset sections_stand = (header_there, whole, from_past, first_past, first-from)

@@ -176,9 +176,6 @@ module _
     records-room = omega (arith, (lent_tells k (layout_in v k) (size_in v (k - 1)) t s f).whole, div-add-mod' (length s) (size_in v k))
 
     module _ (out out₁ : List ℕ) (at : ℕ) (h : at + length s ≤ length out) (e : out₁ ≡ sets out at s) where
-      pub room-there : at + length s / size_in v k * size_in v k ≤ length out₁
-      room-there = rw (e, length-sets, records-room) h
-
       pub records-written :
           (out₂ : List ℕ)
           → out₂ ≡ sets out₁ at (flatten (map (held_canonical v k) (records_from (begin (size_in v (k - 1)) t false) (size_in v k) (drop at out₁) (length s / size_in v k))))

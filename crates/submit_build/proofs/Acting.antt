@@ -1,41 +1,36 @@
--- What a Build does: Blas by Blas, cell by cell, Tlas by Tlas.
-use Rattle.std.proofs.Common.{◌≡◌, ℕ, ◌+◌, ◌*◌, ◌<◌, ◌≤◌, List, [], ◌∷◌, length, get_or, drop, set, sym, refl, ap, ◌∙◌, add-suc, add-one}
+-- What a Build does, Tlas by Tlas.
+use Rattle.std.proofs.Common.{◌≡◌, ℕ, ◌+◌, ◌-◌, ◌*◌, ◌<◌, ◌≤◌, List, [], ◌∷◌, length, set, sym, refl, ◌∙◌, arith}
 use mathlib.Core.Option.{Option, none, some}
-use lib.Seq.{sets}
+use borrow.Rule.Slice.PartMut.{put_mid}
+use Rattle.std.specs.Prelude.{Result, Ok, Err}
+use Rattle.std.proofs.lemmas.List.Edits.{sets, sets-eq}
+use Rattle.std.proofs.lemmas.Slice.{put_mid-paste}
+use Rattle.std.proofs.lemmas.Grind.{common_steps}
 use Rattle.ray_tracing.specs.declared.ValidateAsActionsError.{ValidateAsActionsError}
 use Rattle.ray_tracing.specs.Causes.{Cause}
-use Rattle.ray_tracing.specs.Submission.{Lent, Package, Outcome, accepted, ◌leaving◌, ◌followed_by◌, unless_cause, first, unnumbered, built_blas, built_blases, built_tlas, build_tlas, build_tlases, most_dependencies, lent_of}
+use Rattle.ray_tracing.specs.Submission.{Lent, Package, Outcome, accepted, ◌leaving◌, ◌followed_by◌, unless_cause, first, unnumbered, lent_of, most_dependencies, built_tlas, build_tlas, build_tlases, package_from, past_package, packages_at}
 use Rattle.submit_checks.specs.Outcome.{checked_cause, acted_of}
-use Rattle.submit_checks.specs.declared.Checked.{Checked}
-use Rattle.submit_checks.specs.declared.Checked.TheVariants.{Fine, Refused}
-use Rattle.submit_checks.proofs.Walks.{rest_step, rest_done, refusal, nothing}
+use Rattle.submit_checks.specs.Known.{Listed, AllListed}
+use Rattle.submit_checks.proofs.Judged.{refusal, nothing}
+use Rattle.submit_build_checks.proofs.Packages.{packages_more, packages_done, lent_first, lent_rest}
 
-pub mark_step : (n : ℕ) (t ids : List ℕ) (k : ℕ) → k < length ids → built_blases n (drop k ids) t ≡ built_blases n (drop (k + 1) ids) (built_blas n (get_or ids k 0) t)
-unfolding built_blases
-mark_step n t ids k h = rw (rest_step ids k h)
-
-pub mark_done : (n : ℕ) (t ids : List ℕ) (k : ℕ) → length ids ≤ k → built_blases n (drop k ids) t ≡ t
-unfolding built_blases
-mark_done n t ids k h = rw (rest_done ids k h)
-
-pub copy_step : (d : List ℕ) (at : ℕ) (s : List ℕ) (k : ℕ) → k < length s → sets d (at + k) (drop k s) ≡ sets (set d (at + k) (get_or s k 0)) (at + (k + 1)) (drop (k + 1) s)
-copy_step d at s k h = rw (rest_step s k h, add-one k, add-suc at k)
-
-pub copy_done : (d : List ℕ) (at : ℕ) (s : List ℕ) (k : ℕ) → length s ≤ k → sets d (at + k) (drop k s) ≡ d
-copy_done d at s k h = rw (rest_done s k h)
+-- a list's cells, copied to their place
+pub put_part : (xs ys : List ℕ) (a k : ℕ) → k ≡ length ys → a + length ys ≤ length xs → put_mid a k xs ys ≡ sets xs a ys
+put_part xs ys a k e h = rw e (put_mid-paste a (length ys) xs ys ys (length ys) refl refl refl ∙ grind (arith, common_steps, sets-eq))
 
 -- ---- a Tlas of a Build
 
-module _ (n : ℕ) (p : Package) (l : Lent) {x : Checked} (k : checked_cause x ≡ first (unnumbered l p.tlas) p.dependencies) where
-  pub tlas-refused : {e : ValidateAsActionsError} → x ≡ Refused e → acted_of x l ≡ build_tlases n (p ∷ []) l
+module _ (n : ℕ) (p : Package) (l : Lent) {x : Result Unit ValidateAsActionsError} (k : checked_cause x ≡ first (unnumbered l p.tlas) p.dependencies) {b : List ℕ} where
+  pub tlas_refused : {e : ValidateAsActionsError} → x ≡ Err e → b ≡ l.blases → acted_of (Err e) (lent_of l.counter b l.tlases l.dependency_counts l.dependencies) ≡ build_tlases n (p ∷ []) l
   unfolding build_tlases
-  tlas-refused q = ap (λ (y : Checked). acted_of y l) q ∙ rw (refusal k q)
+  tlas_refused q s = rw (refusal k q, s)
 
-  pub tlas-built : {t c d : List ℕ} → x ≡ Fine → t ≡ built_tlas n p.tlas l.tlases → c ≡ set l.dependency_counts p.tlas (length p.dependencies)
+  pub tlas_built :
+      {t c d : List ℕ} → x ≡ Ok tt → b ≡ l.blases → t ≡ built_tlas n p.tlas l.tlases → c ≡ set l.dependency_counts p.tlas (length p.dependencies)
       → d ≡ sets l.dependencies (p.tlas * most_dependencies) p.dependencies
-      → acted_of Fine (lent_of l.counter l.blases t c d) ≡ build_tlases n (p ∷ []) l
+      → acted_of (Ok tt) (lent_of l.counter b t c d) ≡ build_tlases n (p ∷ []) l
   unfolding build_tlases
-  tlas-built q e f g = rw (nothing k q, e, f, g)
+  tlas_built q s e f g = rw (nothing k q, s, e, f, g)
 
 -- a Tlas, then those after it
 tlases_turn : (n : ℕ) (p : Package) (ps : List Package) (l : Lent) → build_tlases n (p ∷ ps) l ≡ (build_tlases n (p ∷ []) l followed_by λ r. build_tlases n ps r)
@@ -46,13 +41,37 @@ tlases_turn n p ps l = go (first (unnumbered l p.tlas) p.dependencies)
     go none = refl
     go (some c) = refl
 
-module _ (n : ℕ) {p : Package} {rest more : List Package} (l r : Lent) {x : Checked} {o : Outcome} (s : rest ≡ p ∷ more) (inv : build_tlases n rest l ≡ o) (k : acted_of x r ≡ build_tlases n (p ∷ []) l) where
-  pub tlases_stop : {e : ValidateAsActionsError} → x ≡ Refused e → acted_of x r ≡ o
-  tlases_stop q = ap (λ (y : Checked). acted_of y r) q ∙ sym (rw s (tlases_turn n p more l ∙ rw (← k, q))) ∙ inv
+-- of n Tlases, those from the i-th on
+module _
+    (number : ℕ) (lists : List ℕ) (at i n : ℕ) (l r : Lent) (x : Result Unit ValidateAsActionsError) {o : Outcome} (h : i < n)
+    (inv : build_tlases number (packages_at lists at (n - i)) l ≡ o) (k : acted_of x r ≡ build_tlases number (package_from lists at ∷ []) l)
+  where
+    whole : (acted_of x r followed_by λ m. build_tlases number (packages_at lists (past_package lists at) (n - (i + 1))) m) ≡ o
+    whole = rw k (sym (rw (packages_more lists at i n h) (tlases_turn number (package_from lists at) (packages_at lists (past_package lists at) (n - (i + 1))) l)) ∙ inv)
 
-  pub tlases_go_on : x ≡ Fine → build_tlases n more r ≡ o
-  tlases_go_on q = sym (rw s (tlases_turn n p more l ∙ rw (← k, q))) ∙ inv
+    pub tlases_stop : {e : ValidateAsActionsError} → x ≡ Err e → acted_of (Err e) r ≡ o
+    tlases_stop q = rw q at whole
 
-pub tlases_done : (n : ℕ) {rest : List Package} (l : Lent) {o : Outcome} → rest ≡ [] → build_tlases n rest l ≡ o → accepted leaving l ≡ o
+    pub tlases_go_on : x ≡ Ok tt → build_tlases number (packages_at lists (past_package lists at) (n - (i + 1))) r ≡ o
+    tlases_go_on q = rw q at whole
+
+pub tlases_done : (number : ℕ) (lists : List ℕ) (at i n : ℕ) (l : Lent) → n ≤ i → build_tlases number (packages_at lists at (n - i)) l ≡ (accepted leaving l)
 unfolding build_tlases
-tlases_done n l s inv = sym (rw s) ∙ inv
+tlases_done number lists at i n l h = rw (packages_done lists at i n h)
+
+module _ (nb nt : ℕ) (lists : List ℕ) (at i n : ℕ) (h : i < n) (a : AllListed nb nt (packages_at lists at (n - i))) where
+  all-step : Listed nb nt (package_from lists at) × AllListed nb nt (packages_at lists (past_package lists at) (n - (i + 1)))
+  unfolding AllListed
+  all-step = rw (packages_more lists at i n h) at a
+
+  pub listed_first : Listed nb nt (package_from lists at)
+  listed_first = all-step.0
+
+  pub listed_rest : AllListed nb nt (packages_at lists (past_package lists at) (n - (i + 1)))
+  listed_rest = all-step.1
+
+-- what a walk over them takes
+pub ruleset walking = (tlases_done, listed_first, listed_rest, lent_first, lent_rest)
+
+-- what closes the goals of one Tlas built
+pub ruleset building = (put_part, tlas_refused, tlas_built)

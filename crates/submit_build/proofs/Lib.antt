@@ -1,3 +1,2 @@
 pub mod Acting
-pub mod Turns
 pub mod Steps

@@ -2,9 +2,15 @@
 use Rattle.std.proofs.Common.{◌≡◌, ℕ, ◌+◌, ◌≤◌, Bool, true, false, List, length, take, drop, refl, ◌∙◌, arith}
 use mathlib.Core.Option.{none}
 use native.Mathlib.Decide.{dec_lt}
-use Rattle.ray_tracing.specs.Submission.{Lent, Package, Action, build, malformed, Outcome, blas_count, tlas_count, packages_at, packages_lent, build_at, before, built_blases, build_tlases, act, lent_of}
-use Rattle.submit_checks.specs.Outcome.{stepped}
+use Rattle.std.specs.Prelude.{Result, Ok}
+use Rattle.ray_tracing.specs.declared.ValidateAsActionsError.{ValidateAsActionsError}
+use Rattle.ray_tracing.specs.Submission.{Lent, Package, Action, build, malformed, blas_count, tlas_count, packages_at, packages_lent, build_at, before, built_blases, build_tlases, step, act, lent_of}
+use Rattle.submit_checks.specs.Outcome.{stepped, checked_cause, acted_of}
 use Rattle.submit_checks.specs.Known.{Inside, AllListed}
+use Rattle.submit_checks.proofs.Judged.{nothing}
+use Rattle.submit_checks.proofs.Steps.{step_acted}
+use Rattle.submit_checks.specs.declared.BuildLists.{BuildLists}
+use Rattle.submit_checks.specs.Outcome.{build_of}
 use Rattle.submit_build_checks.proofs.Judging.{known-build, build-short, build_cut, build_whole, before-malformed}
 
 pub record WholeBuild (lists : List ℕ) (at bs ts nb nt : ℕ) : Type 0 where
@@ -21,7 +27,7 @@ module _ (l : Lent) (lists : List ℕ) (at bs ts : ℕ) (e : before l (build_at 
       let z : ◌≡◌ {A = ℕ} 0 1 = cc in
       omega arith
 
-  pub whole_build : WholeBuild lists at bs ts (blas_count l) (tlas_count l)
+  whole_build : WholeBuild lists at bs ts (blas_count l) (tlas_count l)
   whole_build =
       elim (dec_lt (length lists) (at + bs)) [
         | yes h ↦ absurd (not_malformed (build-short lists at bs ts h))
@@ -35,8 +41,16 @@ module _ (l : Lent) (lists : List ℕ) (at bs ts : ℕ) (e : before l (build_at 
           let k = known-build l (take bs (drop at lists)) (packages_at lists (at + bs) ts) (rw w at e) in
           record { inside = h; lent = q; is = w; ids = k.0; listed = k.1 }
 
+-- where nothing was refused
+pub judged-build :
+    (l : Lent) (s : BuildLists) {x : Result Unit ValidateAsActionsError} → checked_cause x ≡ before l (build_of s) → x ≡ Ok tt
+    → WholeBuild s.cells.now s.start s.blas_count s.tlas_count (blas_count l) (tlas_count l)
+judged-build l s p q = whole_build l s.cells.now s.start s.blas_count s.tlas_count (nothing p q)
+
 -- what it does: its Blases, then its Tlases
-pub build-acts : (l : Lent) {a : Action} {bs : List ℕ} {ps : List Package} {b : List ℕ} {o : Outcome} → a ≡ build bs ps → b ≡ built_blases l.counter bs l.blases
-    → o ≡ build_tlases l.counter ps (lent_of (stepped l.counter) b l.tlases l.dependency_counts l.dependencies) → o ≡ act l a
+pub build-acts :
+    (l : Lent) {a : Action} {bs : List ℕ} {ps : List Package} {b : List ℕ} (x : Result Unit ValidateAsActionsError) (r : Lent) → before l a ≡ none → a ≡ build bs ps
+    → b ≡ built_blases l.counter bs l.blases
+    → acted_of x r ≡ build_tlases l.counter ps (lent_of (stepped l.counter) b l.tlases l.dependency_counts l.dependencies) → acted_of x r ≡ step l a
 unfolding act
-build-acts l e f g = rw e (rw f at g)
+build-acts l x r d e f g = step_acted l _ x r d (rw e (rw f at g))

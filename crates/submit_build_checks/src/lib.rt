@@ -2,13 +2,14 @@
 #![tactic(auto)]
 
 ghost use Rattle.std.specs.Prelude.{◌≡◌, true, [], ◌+◌, ◌^◌, ◌≤◌, ◌<◌, length};
-ghost use Rattle.ray_tracing.specs.Submission.{first, ◌or_else◌, mention_blas, mention_package, too_many, compacted, before, lent_of};
-ghost use Rattle.ray_tracing.specs.Submission.{package_from, past_package, packages_at, packages_lent, build, build_at};
-ghost use Rattle.submit_checks.specs.Outcome.{tables_only, blases_of, checked_cause};
+ghost use Rattle.ray_tracing.specs.Submission.{first, ◌or_else◌, mention_blas, mention_package, too_many, compacted, before};
+ghost use Rattle.ray_tracing.specs.Submission.{lent_of, lent_with, lent_buffers};
+ghost use Rattle.ray_tracing.specs.Submission.{package_from, past_package, packages_at, packages_lent, build};
+ghost use Rattle.submit_checks.specs.Outcome.{tables_only, blases_of, checked_cause, build_of};
 ghost use Rattle.submit_checks.specs.Known.{blases_in, Inside};
 
-use ray_tracing::{BlasId, TLAS_ROOM, TlasId, ValidateAsActionsError};
-use submit_checks::{Checked, blas_of, judge_ids, judge_tlas};
+use ray_tracing::{BlasId, SubmissionBuffers, TLAS_ROOM, TlasId, ValidateAsActionsError};
+use submit_checks::{BuildLists, blas_of, judge_ids, judge_tlas};
 
 // The most that a Build lists.
 const MOST_BLASES: usize = 64;
@@ -16,13 +17,13 @@ const MOST_BLASES: usize = 64;
 const MOST_TLASES: usize = 32;
 
 // Whether the lists of a Build's Tlases, from a cell on, are lent whole.
+#[tactic(auto, using(crate::proofs::Packages::walking))]
 fn packages_lent(lists: &[u16], start: usize, tlas_count: usize) -> bool
     requires { start ≤ length lists.now }
     ensures { result ≡ packages_lent lists.now start tlas_count }
 {
-    let mut left = tlas_count;
     let mut at = start;
-    while 0 < left {
+    for _ in 0..tlas_count {
         if lists.len() - at < 2 {
             return false;
         }
@@ -31,87 +32,84 @@ fn packages_lent(lists: &[u16], start: usize, tlas_count: usize) -> bool
             return false;
         }
         at = end;
-        left -= 1;
     }
     true
 }
 
 // 4, but for the Blases.
-fn judge_counts(lists: &[u16], start: usize, tlas_count: usize) -> Checked
+#[tactic(auto, using(crate::proofs::Packages::walking))]
+fn judge_counts(
+    lists: &[u16],
+    start: usize,
+    tlas_count: usize,
+) -> Result<(), ValidateAsActionsError>
     requires { packages_lent lists.now start tlas_count ≡ true }
     ensures { checked_cause result ≡ too_many [] (packages_at lists.now start tlas_count) }
 {
     if MOST_TLASES < tlas_count {
-        return Checked::Refused(ValidateAsActionsError::TooMany);
+        return Err(ValidateAsActionsError::TooMany);
     }
-    let mut left = tlas_count;
     let mut at = start;
-    while 0 < left {
+    for _ in 0..tlas_count {
         let count = lists[at + 1] as usize;
         if TLAS_ROOM < count {
-            return Checked::Refused(ValidateAsActionsError::TooMany);
+            return Err(ValidateAsActionsError::TooMany);
         }
         at = at + 2 + count;
-        left -= 1;
     }
-    Checked::Fine
+    Ok(())
 }
 
 // 6 of one Tlas and its list.
-fn judge_package(blases: &[u8], tlases: &[u8], lists: &[u16], at: usize) -> Checked
+fn judge_package(
+    blases: &[u8],
+    tlases: &[u8],
+    lists: &[u16],
+    at: usize,
+) -> Result<(), ValidateAsActionsError>
     requires { past_package lists.now at ≤ length lists.now }
     ensures { checked_cause result
         ≡ mention_package (tables_only blases.now tlases.now) (package_from lists.now at) }
 {
-    let checked = judge_tlas(tlases, TlasId(lists[at]));
-    if let Checked::Refused(_) = checked {
-        return checked;
-    }
+    judge_tlas(tlases, TlasId(lists[at]))?;
     let start = at + 2;
     let end = start + lists[at + 1] as usize;
     judge_ids(blases, &lists[start..end])
 }
 
+#[tactic(auto, using(crate::proofs::Packages::walking))]
 fn judge_packages(
     blases: &[u8],
     tlases: &[u8],
     lists: &[u16],
     start: usize,
     tlas_count: usize,
-) -> Checked
+) -> Result<(), ValidateAsActionsError>
     requires { packages_lent lists.now start tlas_count ≡ true }
     ensures { checked_cause result
         ≡ first (mention_package (tables_only blases.now tlases.now))
         (packages_at lists.now start tlas_count) }
 {
-    let mut left = tlas_count;
     let mut at = start;
-    while 0 < left {
-        let checked = judge_package(blases, tlases, lists, at);
-        if let Checked::Refused(_) = checked {
-            return checked;
-        }
+    for _ in 0..tlas_count {
+        judge_package(blases, tlases, lists, at)?;
         at = at + 2 + lists[at + 1] as usize;
-        left -= 1;
     }
-    Checked::Fine
+    Ok(())
 }
 
 // 41.
-fn judge_compacted(blases: &[u8], ids: &[u16]) -> Checked
+fn judge_compacted(blases: &[u8], ids: &[u16]) -> Result<(), ValidateAsActionsError>
     requires { Inside ids.now (blases_in blases.now) }
     ensures { checked_cause result ≡ first (compacted (blases_of blases.now)) ids.now }
 {
-    let mut k = 0;
-    while k < ids.len() {
-        let id = BlasId(ids[k]);
-        let blas = blas_of(blases, id);
-        if blas.compacted_state == 3 {
-            return Checked::Refused(ValidateAsActionsError::CompactedBlas(id));
+    for &id in ids {
+        let id = BlasId(id);
+        if blas_of(blases, id).compacted_state == 3 {
+            return Err(ValidateAsActionsError::CompactedBlas(id));
         }
-        k += 1;
     }
-    Checked::Fine
+    Ok(())
 }
 
 // 6: Blases, then each Tlas and its list.
@@ -122,21 +120,19 @@ fn judge_mentions(
     lists: &[u16],
     at: usize,
     tlas_count: usize,
-) -> Checked
+) -> Result<(), ValidateAsActionsError>
     requires { packages_lent lists.now at tlas_count ≡ true }
     ensures { checked_cause result
         ≡ (first (mention_blas (blases_of blases.now)) ids.now
         or_else first (mention_package (tables_only blases.now tlases.now))
         (packages_at lists.now at tlas_count)) }
 {
-    let checked = judge_ids(blases, ids);
-    if let Checked::Refused(_) = checked {
-        return checked;
-    }
+    judge_ids(blases, ids)?;
     judge_packages(blases, tlases, lists, at, tlas_count)
 }
 
 // A Build whose lists are lent whole: 4, 6, 40, 41.
+#[tactic(auto, using(crate::proofs::Judging::or_assoc), unfolding(ray_tracing::specs::Submission::before))]
 fn judge_whole_build(
     counter: u64,
     blases: &[u8],
@@ -145,58 +141,45 @@ fn judge_whole_build(
     lists: &[u16],
     at: usize,
     tlas_count: usize,
-) -> Checked
+) -> Result<(), ValidateAsActionsError>
     requires { packages_lent lists.now at tlas_count ≡ true }
     ensures { checked_cause result
         ≡ before (lent_of counter blases.now tlases.now [] [])
         (build ids.now (packages_at lists.now at tlas_count)) }
 {
     if MOST_BLASES < ids.len() {
-        return Checked::Refused(ValidateAsActionsError::TooMany);
+        return Err(ValidateAsActionsError::TooMany);
     }
-    let counted = judge_counts(lists, at, tlas_count);
-    if let Checked::Refused(_) = counted {
-        return counted;
-    }
-    let mentioned = judge_mentions(blases, tlases, ids, lists, at, tlas_count);
-    if let Checked::Refused(_) = mentioned {
-        return mentioned;
-    }
+    judge_counts(lists, at, tlas_count)?;
+    judge_mentions(blases, tlases, ids, lists, at, tlas_count)?;
     if counter == 0 {
-        return Checked::Refused(ValidateAsActionsError::CounterExhausted);
+        return Err(ValidateAsActionsError::CounterExhausted);
     }
     judge_compacted(blases, ids)
 }
 
 // What is judged before a Build acts.
+#[tactic(auto, using(crate::proofs::Judging::lending))]
 pub fn judge_build_action(
     counter: u64,
-    blases: &[u8],
-    tlases: &[u8],
-    lists: &[u16],
-    start: usize,
-    blas_count: usize,
-    tlas_count: usize,
-) -> Checked
-    requires { start + blas_count < 2 ^ 64 }
-    ensures { checked_cause result
-        ≡ before (lent_of counter blases.now tlases.now [] [])
-        (build_at lists.now start blas_count tlas_count) }
+    buffers: &SubmissionBuffers<'_>,
+    lists: &BuildLists<'_>,
+) -> Result<(), ValidateAsActionsError>
+    requires { lists.now.start + lists.now.blas_count < 2 ^ 64 }
+    ensures { checked_cause result ≡ before (lent_with counter (lent_buffers buffers.now)) (build_of lists.now) }
 {
-    let mid = start + blas_count;
-    if lists.len() < mid {
-        return Checked::Refused(ValidateAsActionsError::InvalidValue);
+    let cells = lists.cells;
+    let mid = lists.start + lists.blas_count;
+    if cells.len() < mid || !packages_lent(cells, mid, lists.tlas_count) {
+        return Err(ValidateAsActionsError::InvalidValue);
     }
-    if packages_lent(lists, mid, tlas_count) {
-        return judge_whole_build(
-            counter,
-            blases,
-            tlases,
-            &lists[start..mid],
-            lists,
-            mid,
-            tlas_count,
-        );
-    }
-    Checked::Refused(ValidateAsActionsError::InvalidValue)
+    judge_whole_build(
+        counter,
+        buffers.blases,
+        buffers.tlases,
+        &cells[lists.start..mid],
+        cells,
+        mid,
+        lists.tlas_count,
+    )
 }

@@ -1,3 +1,3 @@
-pub mod Walks
+pub mod Judged
 pub mod Start
 pub mod Steps

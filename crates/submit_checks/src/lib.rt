@@ -1,52 +1,45 @@
-// What the actions of a submission are judged by over lent tables, and what one of them comes to.
+// What the actions of a submission are judged by over lent tables.
 #![tactic(auto)]
 
 ghost use Rattle.std.specs.Prelude.{◌≡◌, [], ◌<◌};
 ghost use Rattle.ray_tracing.specs.Submission.{blas, first, mention_blas, mention_tlas};
-ghost use Rattle.submit_checks.specs.Outcome.{tables_only, blases_of, checked_cause, submitted_of};
+ghost use Rattle.submit_checks.specs.Outcome.{tables_only, blases_of, checked_cause};
 ghost use Rattle.submit_checks.specs.Known.{blases_in};
 
-use ray_tracing::{BLAS_SIZE, Blas, BlasId, Mentioned, Submitted, TlasId, ValidateAsActionsError};
+use ray_tracing::{BLAS_SIZE, Blas, BlasId, TlasId, ValidateAsActionsError};
 use records::{blas_at, blas_mention, tlas_mention};
 
-// What judging finds: nothing to refuse, or the first refusal.
+// A Build's lists, from a cell on: its Blases, then its Tlases with theirs.
 #[derive(Clone, Copy)]
-pub enum Checked {
-    Fine,
-    Refused(ValidateAsActionsError),
+pub struct BuildLists<'a> {
+    pub cells: &'a [u16],
+    pub start: usize,
+    pub blas_count: usize,
+    pub tlas_count: usize,
 }
 
 // A mention of an id, judged.
-pub fn judge_blas(blases: &[u8], id: BlasId) -> Checked
+pub fn judge_blas(blases: &[u8], id: BlasId) -> Result<(), ValidateAsActionsError>
     ensures { checked_cause result ≡ mention_blas (blases_of blases.now) id.0 }
 {
-    if let Mentioned::InvalidResource = blas_mention(blases, id) {
-        return Checked::Refused(ValidateAsActionsError::InvalidResource);
-    }
-    Checked::Fine
+    blas_mention(blases, id)?;
+    Ok(())
 }
 
-pub fn judge_tlas(tlases: &[u8], id: TlasId) -> Checked
+pub fn judge_tlas(tlases: &[u8], id: TlasId) -> Result<(), ValidateAsActionsError>
     ensures { checked_cause result ≡ mention_tlas (tables_only [] tlases.now) id.0 }
 {
-    if let Mentioned::InvalidResource = tlas_mention(tlases, id) {
-        return Checked::Refused(ValidateAsActionsError::InvalidResource);
-    }
-    Checked::Fine
+    tlas_mention(tlases, id)?;
+    Ok(())
 }
 
-pub fn judge_ids(blases: &[u8], ids: &[u16]) -> Checked
+pub fn judge_ids(blases: &[u8], ids: &[u16]) -> Result<(), ValidateAsActionsError>
     ensures { checked_cause result ≡ first (mention_blas (blases_of blases.now)) ids.now }
 {
-    let mut k = 0;
-    while k < ids.len() {
-        let checked = judge_blas(blases, BlasId(ids[k]));
-        if let Checked::Refused(_) = checked {
-            return checked;
-        }
-        k += 1;
+    for &id in ids {
+        judge_blas(blases, BlasId(id))?;
     }
-    Checked::Fine
+    Ok(())
 }
 
 // The record of an id that was judged.
@@ -55,14 +48,4 @@ pub fn blas_of(blases: &[u8], id: BlasId) -> Blas
     ensures { result ≡ blas (blases_of blases.now) id.0 }
 {
     blas_at(blases, id.0 as usize * BLAS_SIZE)
-}
-
-// What one action came to, as what the submission came to.
-pub fn submitted(checked: Checked, index: usize, counter: u64) -> Submitted
-    ensures { result ≡ submitted_of checked index counter }
-{
-    match checked {
-        Checked::Fine => Submitted::Accepted(counter),
-        Checked::Refused(e) => Submitted::Refused(e, index, counter),
-    }
 }

@@ -2,21 +2,20 @@
 // refused.
 #![tactic(auto)]
 
-ghost use Rattle.std.specs.Prelude.{◌≡◌, cond, ◌+◌, ◌≤◌, length, eqb};
+ghost use Rattle.std.specs.Prelude.{◌≡◌, ◌+◌, ◌≤◌, length, IfOk};
 ghost use Rattle.std.proofs.Math.Option.{none};
-ghost use Rattle.ray_tracing.specs.Causes.{bare};
 ghost use Rattle.ray_tracing.specs.Submission as Submission;
-ghost use Rattle.ray_tracing.specs.Submission.{judge, action, taken_for, decode, accepted, refused, answer_of, counter_of};
-ghost use Rattle.ray_tracing.specs.Submission.{outcome_of, lent_of, lent_with, piece_of, buffers_of};
-ghost use Rattle.submit_checks.specs.Outcome.{checked_cause, Acts};
-ghost use Rattle.submit_run.specs.Cells.{cells_at, operand_cause};
+ghost use Rattle.ray_tracing.specs.Submission.{judge, action, taken_for, decode, outcome_of, lent_with, piece_of};
+ghost use Rattle.ray_tracing.specs.Submission.{lent_buffers, SameBuffers};
+ghost use Rattle.submit_checks.specs.Outcome.{Acts};
+ghost use Rattle.submit_run.specs.Cells.{cells_at, operand_cause, id_cause};
 
-use ray_tracing::{Submitted, TlasId, ValidateAsActionsError, pick};
+use ray_tracing::{SubmissionBuffers, SubmissionRefusal, TlasId, ValidateAsActionsError};
 use submit_build::build_action;
-use submit_checks::{Checked, submitted};
+use submit_checks::BuildLists;
 use submit_use::use_action;
 
-// Kinds of action.
+// Kinds of action: numbers, as they stand in the lent cells.
 const BUILD: u32 = 1;
 
 const USE_TLAS: u32 = 2;
@@ -26,9 +25,6 @@ const MARK_BLAS: u32 = 3;
 const MARK_TLAS: u32 = 4;
 
 const MARK_BUILT: u32 = 5;
-
-// An operand is a number until it is judged.
-const LARGEST_ID: u32 = 65535;
 
 // The four cells of an action.
 #[derive(Clone, Copy)]
@@ -61,138 +57,90 @@ fn taken_for(kind: u32) -> u32
     kind
 }
 
-// Of an action that is no Build: 5 of its kind, then 6 of an operand that no id is as large as.
-fn judge_operand(kind: u32, operand: u32) -> Checked
-    ensures { checked_cause result ≡ operand_cause kind operand }
+// The id of an action that is no Build: 5 of its kind, then 6 of an operand that no id is as large as.
+fn judge_operand(kind: u32, operand: u32) -> Result<u16, ValidateAsActionsError>
+    ensures cause { id_cause result ≡ operand_cause kind operand }
+    ensures id { IfOk result (λ id. id ≡ operand) }
 {
-    if kind < USE_TLAS {
-        return Checked::Refused(ValidateAsActionsError::InvalidValue);
+    if kind < USE_TLAS || MARK_TLAS < kind {
+        return Err(ValidateAsActionsError::InvalidValue);
     }
-    if MARK_TLAS < kind {
-        return Checked::Refused(ValidateAsActionsError::InvalidValue);
-    }
-    if LARGEST_ID < operand {
-        return Checked::Refused(ValidateAsActionsError::InvalidResource);
-    }
-    Checked::Fine
+    u16::try_from(operand).map_err(|_| ValidateAsActionsError::InvalidResource)
 }
 
-// One action, as action `index`. A mark of one id is a Build whose Tlases list nothing: its lists stand in an array of its own.
+// One action. A mark of one id is a Build whose Tlases list nothing: its lists stand in an array of its own.
 fn step(
-    counter: u64,
-    blases: &mut [u8],
-    tlases: &mut [u8],
-    dependency_counts: &mut [u16],
-    dependencies: &mut [u16],
+    counter: &mut u64,
+    buffers: &mut SubmissionBuffers<'_>,
     lists: &[u16],
     cells: Cells,
-    index: usize,
-) -> Submitted
-    requires { judge (lent_of counter blases.old tlases.old dependency_counts.old dependencies.old) ≡ none }
-    ensures { Acts
-        counter
-        (buffers_of blases.old tlases.old dependency_counts.old dependencies.old)
-        index
+) -> Result<(), ValidateAsActionsError>
+    requires { judge (lent_with counter.old (lent_buffers buffers.old)) ≡ none }
+    ensures acts { Acts counter.old (lent_buffers buffers.old)
         (action lists.now cells.kind cells.operand cells.blas_count cells.tlas_count)
-        result
-        (buffers_of blases.new tlases.new dependency_counts.new dependencies.new) }
+        result counter.new (lent_buffers buffers.new) }
+    ensures same { SameBuffers buffers.old buffers.new }
 {
     let kind = taken_for(cells.kind);
-    let operand = cells.operand;
     if kind == BUILD {
-        return build_action(
-            counter,
-            blases,
-            tlases,
-            dependency_counts,
-            dependencies,
-            lists,
-            operand as usize,
-            cells.blas_count as usize,
-            cells.tlas_count as usize,
-            index,
-        );
+        let build = BuildLists {
+            cells: lists,
+            start: cells.operand as usize,
+            blas_count: cells.blas_count as usize,
+            tlas_count: cells.tlas_count as usize,
+        };
+        return build_action(counter, buffers, &build);
     }
-    let checked = judge_operand(kind, operand);
-    if let Checked::Refused(_) = checked {
-        return submitted(checked, index, counter);
-    }
-    let id = operand as u16;
+    let id = judge_operand(kind, cells.operand)?;
     if kind == USE_TLAS {
-        return use_action(
-            counter,
-            &blases[..],
-            &tlases[..],
-            &dependency_counts[..],
-            &dependencies[..],
-            TlasId(id),
-            index,
-        );
+        return use_action(buffers, TlasId(id));
     }
     let own = [id, 0];
-    let blas_mark = pick(kind == MARK_BLAS, 1, 0);
-    let tlas_mark = pick(kind == MARK_BLAS, 0, 1);
-    build_action(
-        counter,
-        blases,
-        tlases,
-        dependency_counts,
-        dependencies,
-        &own,
-        0,
-        blas_mark,
-        tlas_mark,
-        index,
-    )
+    let mark = BuildLists {
+        cells: &own,
+        start: 0,
+        blas_count: usize::from(kind == MARK_BLAS),
+        tlas_count: usize::from(kind == MARK_TLAS),
+    };
+    build_action(counter, buffers, &mark)
 }
 
-// Where no whole action is left: a part of one is none.
-fn ends(left: usize, index: usize, counter: u64) -> Submitted
-    ensures { (answer_of result ≡ cond (eqb left 0) accepted (refused index (bare 5))) × (counter_of result ≡ counter) }
-{
-    if left == 0 {
-        return Submitted::Accepted(counter);
-    }
-    Submitted::Refused(ValidateAsActionsError::InvalidValue, index, counter)
-}
-
-// The actions in turn, to the first that is refused.
+// The actions in turn, to the first that is refused; a part of one at the end is none.
 pub fn run(
     counter: u64,
-    blases: &mut [u8],
-    tlases: &mut [u8],
-    dependency_counts: &mut [u16],
-    dependencies: &mut [u16],
+    buffers: &mut SubmissionBuffers<'_>,
     actions: &[u32],
     lists: &[u16],
-) -> Submitted
-    requires { judge (lent_of counter blases.old tlases.old dependency_counts.old dependencies.old) ≡ none }
-    ensures { outcome_of result blases.new tlases.new dependency_counts.new
-        dependencies.new
-        ≡ Submission.run (lent_with counter
-        (buffers_of blases.old tlases.old dependency_counts.old dependencies.old))
-        (decode (piece_of actions.now lists.now)) }
+) -> Result<u64, SubmissionRefusal>
+    requires { judge (lent_with counter (lent_buffers buffers.old)) ≡ none }
+    ensures runs { let y = lent_buffers buffers.new in
+        outcome_of result y.blases y.tlases y.dependency_counts y.dependencies
+        ≡ Submission.run (lent_with counter (lent_buffers buffers.old)) (decode (piece_of actions.now lists.now)) }
+    ensures same { SameBuffers buffers.old buffers.new }
 {
     let mut number = counter;
-    let mut at = 0;
-    let mut index = 0;
-    while 4 <= actions.len() - at {
-        let submitted = step(
-            number,
-            blases,
-            tlases,
-            dependency_counts,
-            dependencies,
+    let count = actions.len() / 4;
+    for index in 0..count {
+        // Tried as `map_err(..)?`: the exit of the `?` stayed open, since what the closure returns does not compute there.
+        if let Err(error) = step(
+            &mut number,
+            &mut *buffers,
             lists,
-            cells_at(actions, at),
-            index,
-        );
-        let Submitted::Accepted(next) = submitted else {
-            return submitted;
-        };
-        number = next;
-        at += 4;
-        index += 1;
+            cells_at(actions, index * 4),
+        ) {
+            return Err(SubmissionRefusal {
+                error,
+                action: index,
+                counter: number,
+            });
+        }
     }
-    ends(actions.len() - at, index, number)
+    if actions.len() % 4 != 0 {
+        return Err(SubmissionRefusal {
+            error: ValidateAsActionsError::InvalidValue,
+            action: count,
+            counter: number,
+        });
+    }
+    Ok(number)
 }

@@ -5,9 +5,8 @@ use mathlib.Core.Option.{none, some}
 use mathlib.Core.Path.{◌≡◌, refl, sym, ap, subst, ◌∙◌}
 use mathlib.Core.List.{List}
 use lib.ListN.{length}
-use Rattle.ray_tracing.specs.declared.SheetError.{SheetError}
-use Rattle.ray_tracing.specs.declared.Judged as ray
-use Rattle.ray_tracing.specs.declared.Judged.TheVariants as judged
+use Rattle.std.specs.Prelude.{Result, Ok, Err}
+use Rattle.ray_tracing.specs.declared.SheetRefusal.{SheetRefusal}
 use Rattle.ray_tracing.specs.Layout.{Layout, total}
 use Rattle.ray_tracing.specs.Reading.{Judged, fine, refused, judge_lent}
 use Rattle.ray_tracing.specs.Causes.{Cause, bare, sheet_number}
@@ -25,13 +24,13 @@ table_none (refused n p) e =
 pub few_of_table : (k : ℕ) (l : Layout) (w : ℕ) (t s : List ℕ) → table_cause (judge_lent k l w t s) ≡ none → length s / total l.fields ≤ l.most
 few_of_table k l w t s e = few_records k l w t s (table_none (judge_lent k l w t s) e)
 
-module _ {x : ray.Judged} {j : Judged} (p : judged_of x ≡ j) where
-  pub table-fine : x ≡ judged.Fine → none ≡ table_cause j
+module _ {x : Result Unit SheetRefusal} {j : Judged} (p : judged_of x ≡ j) where
+  pub table-fine : {u : Unit} → x ≡ Ok u → none ≡ table_cause j
   table-fine q = ap table_cause (sym (ap judged_of q) ∙ p)
 
-  module _ {e : SheetError} {place : ℕ} (q : x ≡ judged.Refused e place) where
-    pub table-number : Only j → 4 ≤ sheet_number e
+  module _ {r : SheetRefusal} (q : x ≡ Err r) where
+    pub table-number : Only j → 4 ≤ sheet_number r.error
     table-number h = only_above (subst Only (sym p ∙ ap judged_of q) h)
 
-    pub table-refused : {c : Cause} → c ≡ bare (sheet_number e) → some c ≡ table_cause j
+    pub table-refused : {c : Cause} → c ≡ bare (sheet_number r.error) → some c ≡ table_cause j
     table-refused h = rw (h, sym p ∙ ap judged_of q)

@@ -1,105 +1,83 @@
 // A use of a Tlas as an action: 6, then 43, then its list, 42, 44, 21.
 #![tactic(auto)]
 
-ghost use Rattle.std.specs.Prelude.{◌≡◌, ◌≤◌, ◌<◌, get_or};
+ghost use Rattle.std.specs.Prelude.{◌≡◌, ℕ, ◌≤◌, ◌<◌, get_or};
 ghost use Rattle.std.proofs.Math.Option.{none};
 ghost use Rattle.ray_tracing.specs.Submission as Submission;
-ghost use Rattle.ray_tracing.specs.Submission.{Lent, list_in, most_dependencies, first, judge, lent_of, buffers_of};
+ghost use Rattle.ray_tracing.specs.Submission.{Lent, list_in, most_dependencies, first, judge, lent_with, lent_buffers};
 ghost use Rattle.ray_tracing.specs.Submission.{unusable_blas, unusable, use_tlas};
 ghost use Rattle.submit_checks.specs.Outcome.{checked_cause, Acts};
-ghost use Rattle.submit_checks.specs.Known.{blases_in, tlases_in, Inside, ListRoom};
+ghost use Rattle.submit_checks.specs.Known.{blases_in, tlases_in, Inside, HasRoom};
 
-use ray_tracing::{Blas, BlasId, Submitted, TLAS_ROOM, TLAS_SIZE, TlasId, ValidateAsActionsError};
+use ray_tracing::{
+    Blas, BlasId, SubmissionBuffers, TLAS_ROOM, TLAS_SIZE, TlasId, ValidateAsActionsError,
+};
 use records::tlas_at;
-use submit_checks::{Checked, blas_of, judge_tlas, submitted};
+use submit_checks::{blas_of, judge_tlas};
 
 // One listed Blas of a use: 42, 44, 21.
-fn use_blas(blas: Blas, id: BlasId, own: u64, tlas: TlasId) -> Checked
+fn use_blas(blas: Blas, id: BlasId, own: u64, tlas: TlasId) -> Result<(), ValidateAsActionsError>
     ensures { (l : Lent) → Submission.blas l id.0 ≡ blas → (Submission.tlas l tlas.0).built_index ≡ own
         → checked_cause result ≡ unusable_blas l tlas.0 id.0 }
 {
     if blas.built_index == 0 {
-        return Checked::Refused(ValidateAsActionsError::UsedTlasOfUnbuiltBlas(tlas, id));
+        return Err(ValidateAsActionsError::UsedTlasOfUnbuiltBlas(tlas, id));
     }
     if own < blas.built_index {
-        return Checked::Refused(ValidateAsActionsError::BlasNewerThenTlas(id, tlas));
+        return Err(ValidateAsActionsError::BlasNewerThenTlas(id, tlas));
     }
     if blas.destroyed == 1 {
-        return Checked::Refused(ValidateAsActionsError::DestroyedResource(id));
+        return Err(ValidateAsActionsError::DestroyedResource(id));
     }
-    Checked::Fine
+    Ok(())
 }
 
-fn use_list(blases: &[u8], own: u64, tlas: TlasId, ids: &[u16]) -> Checked
+fn use_list(
+    blases: &[u8],
+    own: u64,
+    tlas: TlasId,
+    ids: &[u16],
+) -> Result<(), ValidateAsActionsError>
     requires { Inside ids.now (blases_in blases.now) }
     ensures { (l : Lent) → l.blases ≡ blases.now → (Submission.tlas l tlas.0).built_index ≡ own
         → checked_cause result ≡ first (unusable_blas l tlas.0) ids.now }
 {
-    let mut k = 0;
-    while k < ids.len() {
-        let id = BlasId(ids[k]);
-        let checked = use_blas(blas_of(blases, id), id, own, tlas);
-        if let Checked::Refused(_) = checked {
-            return checked;
-        }
-        k += 1;
+    for &id in ids {
+        let id = BlasId(id);
+        use_blas(blas_of(blases, id), id, own, tlas)?;
     }
-    Checked::Fine
+    Ok(())
 }
 
 // A use: 43, then its list.
-fn use_tlas(
-    blases: &[u8],
-    tlases: &[u8],
-    dependency_counts: &[u16],
-    dependencies: &[u16],
-    tlas: TlasId,
-) -> Checked
-    requires tlas_bound { tlas.0 < tlases_in tlases.now }
-    requires list_room { ListRoom (tlases_in tlases.now) dependency_counts.now dependencies.now }
-    requires tlas_bound_2 { (get_or dependency_counts.now tlas.0 0 ≤ most_dependencies)
-        × Inside (list_in dependency_counts.now dependencies.now tlas.0) (blases_in blases.now) }
-    ensures { checked_cause result
-        ≡ unusable
-        (lent_of 0 blases.now tlases.now dependency_counts.now dependencies.now)
-        tlas.0 }
+#[tactic(auto, unfolding(ray_tracing::specs::Submission::tlas_in, ray_tracing::specs::Submission::list_in))]
+fn use_tlas(buffers: &SubmissionBuffers<'_>, tlas: TlasId) -> Result<(), ValidateAsActionsError>
+    requires inside { tlas.0 < tlases_in buffers.now.tlases.now }
+    requires list_room { HasRoom (lent_buffers buffers.now) }
+    requires few { get_or buffers.now.dependency_counts.now tlas.0 0 ≤ most_dependencies }
+    requires listed { Inside (list_in buffers.now.dependency_counts.now buffers.now.dependencies.now tlas.0)
+        (blases_in buffers.now.blases.now) }
+    ensures { checked_cause result ≡ unusable (lent_with 0 (lent_buffers buffers.now)) tlas.0 }
 {
     let t = tlas.0 as usize;
-    let used = tlas_at(tlases, t * TLAS_SIZE);
-    let own = used.built_index;
+    let own = tlas_at(buffers.tlases, t * TLAS_SIZE).built_index;
     if own == 0 {
-        return Checked::Refused(ValidateAsActionsError::UsedUnbuiltTlas(tlas));
+        return Err(ValidateAsActionsError::UsedUnbuiltTlas(tlas));
     }
     let start = t * TLAS_ROOM;
-    let end = start + dependency_counts[t] as usize;
-    use_list(blases, own, tlas, &dependencies[start..end])
+    let end = start + buffers.dependency_counts[t] as usize;
+    use_list(buffers.blases, own, tlas, &buffers.dependencies[start..end])
 }
 
+// A use leaves what is lent.
+#[tactic(auto, using(crate::proofs::Laws::use_steps))]
 pub fn use_action(
-    counter: u64,
-    blases: &[u8],
-    tlases: &[u8],
-    dependency_counts: &[u16],
-    dependencies: &[u16],
+    buffers: &SubmissionBuffers<'_>,
     tlas: TlasId,
-    index: usize,
-) -> Submitted
-    requires { judge (lent_of counter blases.now tlases.now dependency_counts.now dependencies.now) ≡ none }
-    ensures { Acts
-        counter
-        (buffers_of blases.now tlases.now dependency_counts.now dependencies.now)
-        index
-        (use_tlas tlas.0)
-        result
-        (buffers_of blases.now tlases.now dependency_counts.now dependencies.now) }
+) -> Result<(), ValidateAsActionsError>
+    requires { judge (lent_with 0 (lent_buffers buffers.now)) ≡ none }
+    ensures { (n : ℕ) → Acts n (lent_buffers buffers.now) (use_tlas tlas.0) result n (lent_buffers buffers.now) }
 {
-    let checked = judge_tlas(tlases, tlas);
-    if let Checked::Refused(_) = checked {
-        return submitted(checked, index, counter);
-    }
-    submitted(
-        use_tlas(blases, tlases, dependency_counts, dependencies, tlas),
-        index,
-        counter,
-    )
+    judge_tlas(buffers.tlases, tlas)?;
+    use_tlas(buffers, tlas)
 }

@@ -15,8 +15,8 @@
 
 ghost use Rattle.std.specs.Prelude.{◌≡◌, ◌≤◌, length};
 
-use ray_tracing::{OpenAnswer, Reported, SheetWritten, Version, WriteAnswer};
-use report_words::Refusal;
+use ray_tracing::{ConvertSheetError, OpenAnswer, OpenGroupsError, Version};
+use report_words::{Refusal, no_refusal};
 use std::env::FillError;
 use std::io;
 use std::io::Read;
@@ -28,6 +28,7 @@ fn read_full(rt: &impl Input, bytes: &mut [u8]) -> usize
 {
     let mut input = rt.reader();
     let mut done = 0;
+    // A `while`: how many bytes a read gives is not known before.
     while done < bytes.len() {
         match input.read(&mut bytes[done..]) {
             Ok(0) | Err(_) => break,
@@ -47,7 +48,7 @@ fn print(rt: &impl Print, text: &[u8], n: usize) -> io::Result<()> {
 // No sheet's lines are more than 6,134 bytes, so none is refused here (`report-most`, `never_short` of `report`).
 fn print_lines(rt: &impl Print, sheet: &[u8]) -> io::Result<()> {
     let mut text = [0u8; 6134];
-    if let Reported::Written(n) = report::report(sheet, &mut text) {
+    if let Ok(n) = report::report(sheet, &mut text) {
         print(rt, &text, n)?;
     }
     Ok(())
@@ -56,7 +57,7 @@ fn print_lines(rt: &impl Print, sheet: &[u8]) -> io::Result<()> {
 // Nor are they with their words more than 6,381 (`explained-most`, `never_short` of `explain`).
 fn print_explained(rt: &impl Print, sheet: &[u8]) -> io::Result<()> {
     let mut text = [0u8; 6381];
-    if let Reported::Written(n) = explain::explain(sheet, &mut text) {
+    if let Ok(n) = explain::explain(sheet, &mut text) {
         print(rt, &text, n)?;
     }
     Ok(())
@@ -65,40 +66,38 @@ fn print_explained(rt: &impl Print, sheet: &[u8]) -> io::Result<()> {
 // Nothing for a refused sheet; a written one is never empty, and never longer than this.
 fn print_canonical(rt: &impl Print, sheet: &[u8]) -> io::Result<()> {
     let mut out = [0u8; 65536];
-    if let SheetWritten::Written(n) = sheet_write::write_sheet(sheet, &mut out) {
+    if let Ok(n) = sheet_write::write_sheet(sheet, &mut out) {
         print(rt, &out, n)?;
     }
     Ok(())
 }
 
-fn say_written(rt: &impl Eprint, n: u64) -> io::Result<()> {
+fn say_written(rt: &impl Eprint, n: usize) -> io::Result<()> {
     eprintln!(rt; "written {n}")
 }
 
 // No words are more than 247 bytes.
 fn print_words(rt: &impl Print, refusal: Refusal) -> io::Result<()> {
     let mut text = [0u8; 247];
-    if let Reported::Written(n) = report_words::words(refusal, &mut text) {
+    if let Ok(n) = report_words::words(refusal, &mut text) {
         print(rt, &text, n)?;
     }
     Ok(())
 }
 
 // A sheet in a version. Every sheet that is converted has room: none is longer than 57,439 bytes in either version.
-fn convert(to: Version, sheet: &[u8], out: &mut [u8]) -> WriteAnswer {
+fn convert(to: Version, sheet: &[u8], out: &mut [u8]) -> Result<usize, ConvertSheetError> {
     match to {
-        Version::One => capi_answers::convert_answer(sheet_convert::to_version_1(sheet, out)),
-        Version::Two => capi_answers::convert_answer(sheet_convert::to_version_2(sheet, out)),
+        Version::One => sheet_convert::to_version_1(sheet, out),
+        Version::Two => sheet_convert::to_version_2(sheet, out),
     }
 }
 
 fn print_converted(rt: &(impl Print + Eprint), to: Version, sheet: &[u8]) -> io::Result<()> {
     let mut out = [0u8; 65536];
-    let a = convert(to, sheet, &mut out);
-    let n = a.written as usize;
-    if a.number == 0 {
+    if let Ok(n) = convert(to, sheet, &mut out) {
         print(rt, &out, n)?;
-        say_written(rt, a.written)?;
+        say_written(rt, n)?;
     }
     Ok(())
 }
@@ -113,26 +112,16 @@ fn call_of(to: Version) -> u64 {
 
 fn print_unconverted(rt: &impl Print, to: Version, sheet: &[u8]) -> io::Result<()> {
     let mut out = [0u8; 65536];
-    let a = convert(to, sheet, &mut out);
+    let a = capi_answers::convert_answer(convert(to, sheet, &mut out));
     print_words(
         rt,
         Refusal {
             call: call_of(to),
             number: a.number,
             e: a.place,
-            f: 0,
-            x: 0,
-            y: 0,
-            z: 0,
+            ..no_refusal()
         },
     )
-}
-
-// What opening the groups of the input came to; or it fills the buffer, and may be longer.
-#[derive(Drop)]
-enum Taken {
-    Whole(OpenAnswer),
-    Longer,
 }
 
 fn groups_buffer() -> [u8; 1048576]
@@ -141,34 +130,29 @@ fn groups_buffer() -> [u8; 1048576]
     [0; 1048576]
 }
 
-fn open_input(rt: &impl Input, slots: &mut [u8]) -> Taken {
+// What opening the groups of the input came to; nothing where it fills the buffer, and may be longer.
+fn open_input(rt: &impl Input, slots: &mut [u8]) -> Option<Result<usize, OpenGroupsError>> {
     let mut groups = groups_buffer();
     let n = read_full(rt, &mut groups);
     if n < groups.len() {
-        return Taken::Whole(capi_answers::open_answer(groups::open_groups(&groups[..n], slots)));
+        return Some(groups::open_groups(&groups[..n], slots));
     }
-    Taken::Longer
+    None
 }
 
 // No groups open to more than 512 slots of 56 bytes, and none that are not refused to none.
 fn print_slots(rt: &(impl Input + Print + Eprint)) -> io::Result<()> {
     let mut out = [0u8; 28672];
-    if let Taken::Whole(a) = open_input(rt, &mut out) {
-        let n = a.written as usize;
-        if a.number == 0 {
-            print(rt, &out, n)?;
-            say_written(rt, a.written)?;
-        }
+    if let Some(Ok(n)) = open_input(rt, &mut out) {
+        print(rt, &out, n)?;
+        say_written(rt, n)?;
     }
     Ok(())
 }
 
-// Of 45 and 46 with the group and the item, of the others with the place.
+// Of 45 and 46 with the group and the item, of the others with the place: by the C answer's numbers, which `words` takes.
 fn print_refusal(rt: &impl Print, a: OpenAnswer) -> io::Result<()> {
-    let mut e = a.place;
-    if 45 <= a.number {
-        e = a.group;
-    }
+    let e = if 45 <= a.number { a.group } else { a.place };
     print_words(
         rt,
         Refusal {
@@ -176,17 +160,15 @@ fn print_refusal(rt: &impl Print, a: OpenAnswer) -> io::Result<()> {
             number: a.number,
             e,
             f: a.item,
-            x: 0,
-            y: 0,
-            z: 0,
+            ..no_refusal()
         },
     )
 }
 
 fn print_unopened(rt: &(impl Input + Print)) -> io::Result<()> {
     let mut slots = [0u8; 28672];
-    if let Taken::Whole(a) = open_input(rt, &mut slots) {
-        print_refusal(rt, a)?;
+    if let Some(opened) = open_input(rt, &mut slots) {
+        print_refusal(rt, capi_answers::open_answer(opened))?;
     }
     Ok(())
 }

@@ -1,20 +1,27 @@
 -- `build::judge` meets its contract: by what judging found, and what counting counts.
-use mathlib.Core.Path.{◌∙◌}
-use Rattle.ray_tracing.specs.Plan.{tables_of}
-use Rattle.build.proofs.Judged.{refused-build, nothing-build, record-build, nothing-drawn, record-plannable}
+use Rattle.std.proofs.Common.{◌∙◌}
+use Rattle.ray_tracing.specs.Plan.{lent_tables, lent_outputs}
+use Rattle.build.proofs.Judged.{nothing-build, record-build, nothing-drawn, record-plannable, writes}
 use Rattle.build.proofs.judge.Goals as goal
 
-pub count_ranges-requires : goal.count_ranges-requires
-count_ranges-requires c = let a = c.args in nothing-drawn (tables_of a.version a.alignment a.buffers.now a.blases.now a.declared.now a.tlases.now a.entries.now a.geometries.now a.packages.now a.slots.now) c.judge_build-judged.ensures (λ k. (c.shared_slice_known-1.given k).fits) c.in-Nothing.is
-
 pub counts-requires : goal.counts-requires
-counts-requires c = let a = c.args in let p = record-plannable (tables_of a.version a.alignment a.buffers.now a.blases.now a.declared.now a.tlases.now a.entries.now a.geometries.now a.packages.now a.slots.now) c.judge_build-judged.ensures (λ k. (c.shared_slice_known-1.given k).fits) _ c.in-ToRecord.is in (p.entry-blases, p.geometries-drawn, p.slots-drawn)
+counts-requires c =
+    let p = record-plannable (lent_tables c.args.tables.now) c.are_bytes.ensures _ (rw c.in-Some.is at c.in_ok-size.ensures) in
+    (p.entry-blases, p.geometries-drawn, p.slots-drawn)
 
-pub returns-in-Refused : goal.returns-in-Refused
-returns-in-Refused c = let a = c.args in λ o l. refused-build (tables_of a.version a.alignment a.buffers.now a.blases.now a.declared.now a.tlases.now a.entries.now a.geometries.now a.packages.now a.slots.now) c.judge_build-judged.ensures o _ _ _ c.in-Refused.is
+pub count_ranges-requires : goal.count_ranges-requires
+count_ranges-requires c = nothing-drawn (lent_tables c.args.tables.now) c.are_bytes.ensures (rw c.in-None.is at c.in_ok-size.ensures)
 
-pub returns-in-Nothing : goal.returns-in-Nothing
-returns-in-Nothing c = let a = c.args in λ o l. c.nothing_if.ensures ∙ nothing-build (tables_of a.version a.alignment a.buffers.now a.blases.now a.declared.now a.tlases.now a.entries.now a.geometries.now a.packages.now a.slots.now) c.judge_build-judged.ensures o l c.in-Nothing.is c.count_ranges.ensures
+pub returns-in-Some : goal.returns-in-Some
+returns-in-Some c =
+    let x = lent_tables c.args.tables.now in
+    let o = lent_outputs c.args.outputs.now in
+    let e = c.recorded_if.ensures ∙ rw c.lengths-lent.ensures (record-build x o _ (rw c.in-Some.is at c.in_ok-size.ensures) c.counts.ensures) in
+    record { answer = e; writes = writes x o c.are_bytes.ensures e }
 
-pub returns-in-ToRecord : goal.returns-in-ToRecord
-returns-in-ToRecord c = let a = c.args in λ o l. c.recorded_if.ensures ∙ record-build (tables_of a.version a.alignment a.buffers.now a.blases.now a.declared.now a.tlases.now a.entries.now a.geometries.now a.packages.now a.slots.now) c.judge_build-judged.ensures o l _ c.in-ToRecord.is c.counts.ensures
+pub returns-in-None : goal.returns-in-None
+returns-in-None c =
+    let x = lent_tables c.args.tables.now in
+    let o = lent_outputs c.args.outputs.now in
+    let e = c.nothing_if.ensures ∙ rw c.lengths-lent.ensures (nothing-build x o (rw c.in-None.is at c.in_ok-size.ensures) c.count_ranges.ensures) in
+    record { answer = e; writes = writes x o c.are_bytes.ensures e }

@@ -1,13 +1,8 @@
 -- `build_lists::write_dependencies` meets its contract. The invariant: what is left, written from here on, is the whole.
-use Prim.Native.Nat.{◌+◌, ◌-◌, ◌≤◌}
+use Prim.Native.Nat.{◌+◌, ◌-◌}
 use Rattle.build_ranges.proofs.Appending.{Left}
 use Rattle.ray_tracing.specs.Plan.{dependencies_from}
 use Rattle.build_lists.proofs.write_dependencies.Given as goal
 
 abbrev pub invariant-loop-s : goal.invariant-loop-s
-invariant-loop-s l = (l.first ≤ l.s)
-    × (l.s ≤ l.first + l.count)
-    × Left l.out l.end (dependencies_from l.slots l.s (l.first + l.count - l.s)) l.initial.out l.at (dependencies_from l.slots l.first l.count)
-
-abbrev pub decreases-loop-s : goal.decreases-loop-s
-decreases-loop-s l = l.first + l.count - l.s
+invariant-loop-s l = Left l.out l.end (dependencies_from l.slots l.s (l.first + l.count - l.s)) l.initial.out l.at (dependencies_from l.slots l.first l.count)

@@ -8,6 +8,3 @@ use Rattle.build_lists.proofs.write_entry_blases.Given as goal
 
 abbrev pub invariant-loop-i : goal.invariant-loop-i
 invariant-loop-i l = Left l.out l.i (entry_blases (of_entries [] l.entries) l.i (entries_in l.entries - l.i)) l.initial.out 0 (entry_blases (of_entries [] l.entries) 0 (entries_in l.entries))
-
-abbrev pub decreases-loop-i : goal.decreases-loop-i
-decreases-loop-i l = entries_in l.entries - l.i

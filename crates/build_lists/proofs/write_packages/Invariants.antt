@@ -11,6 +11,3 @@ use Rattle.build_lists.proofs.write_packages.Given as goal
 abbrev pub invariant-loop-p : goal.invariant-loop-p
 invariant-loop-p l = (l.s ≡ slots_before (of_packages [] l.packages l.slots) l.p)
     × Left l.out l.end (package_lists (of_packages [] l.packages l.slots) l.p l.s (packages_in l.packages - l.p)) l.initial.out l.at (package_lists (of_packages [] l.packages l.slots) 0 0 (packages_in l.packages))
-
-abbrev pub decreases-loop-p : goal.decreases-loop-p
-decreases-loop-p l = packages_in l.packages - l.p

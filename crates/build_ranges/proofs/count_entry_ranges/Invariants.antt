@@ -6,10 +6,7 @@ use Rattle.build_ranges.specs.Ranges.{entry_ranges}
 use Rattle.build_ranges.proofs.count_entry_ranges.Given as goal
 
 abbrev pub invariant-loop-g : goal.invariant-loop-g
-invariant-loop-g l = (l.first ≤ l.g)
-    × (l.g ≤ l.first + l.count)
-    × (l.n ≤ 9 * (l.g - l.first))
-    × (l.n + length (entry_ranges l.version l.geometries l.kind l.g (l.first + l.count - l.g)) ≡ length (entry_ranges l.version l.geometries l.kind l.first l.count))
-
-abbrev pub decreases-loop-g : goal.decreases-loop-g
-decreases-loop-g l = l.first + l.count - l.g
+invariant-loop-g l = record {
+  within : l.n ≤ 9 * (l.g - l.first);
+  counted : l.n + length (entry_ranges l.version l.geometries l.kind l.g (l.first + l.count - l.g)) ≡ length (entry_ranges l.version l.geometries l.kind l.first l.count);
+}

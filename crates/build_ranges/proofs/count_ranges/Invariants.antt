@@ -12,6 +12,3 @@ abbrev pub invariant-loop-i : goal.invariant-loop-i
 invariant-loop-i l = (l.g ≡ drawn_before (of_entries [] l.entries) l.i)
     × (l.n ≤ 9 * l.g)
     × (l.n + length (all_ranges l.version l.entries l.geometries l.i l.g (entries_in l.entries - l.i)) ≡ length (all_ranges l.version l.entries l.geometries 0 0 (entries_in l.entries)))
-
-abbrev pub decreases-loop-i : goal.decreases-loop-i
-decreases-loop-i l = entries_in l.entries - l.i

@@ -11,6 +11,3 @@ use Rattle.build_ranges.proofs.write_init_ranges.Given as goal
 abbrev pub invariant-loop-i : goal.invariant-loop-i
 invariant-loop-i l = (l.g ≡ drawn_before (of_entries [] l.entries) l.i)
     × Left l.out l.at (all_ranges l.version l.entries l.geometries l.i l.g (entries_in l.entries - l.i)) l.initial.out 0 (all_ranges l.version l.entries l.geometries 0 0 (entries_in l.entries))
-
-abbrev pub decreases-loop-i : goal.decreases-loop-i
-decreases-loop-i l = entries_in l.entries - l.i

@@ -1,20 +1,11 @@
 -- `groups::open_groups` meets its contract: what judging refuses is refused, and what it finds fine is opened.
-use Rattle.std.proofs.Common.{rules, sym, ap, ◌∙◌}
+use Rattle.std.proofs.Common.{sym, ap, ◌∙◌}
+use Rattle.std.proofs.lemmas.Result.{err_from_is_err_and}
 use Rattle.groups_judge.specs.Found.{finding_of}
 use Rattle.groups.proofs.Calls.{refused_so}
 use Rattle.groups.proofs.open_groups.Goals as goal
 
-pub open_judged-requires : goal.open_judged-requires
-open_judged-requires c =
-    let judge = c.judge_groups-judged in
-    (sym judge.ensures.judged ∙ ap finding_of c.in-EndsAt.is, (search rules, judge.ensures.starts))
-
-pub returns-in-Refused : goal.returns-in-Refused
-returns-in-Refused c =
-    let judge = c.judge_groups-judged in
-    refused_so _ _ _ _ _ _ (sym judge.ensures.judged ∙ ap finding_of c.in-Refused.is)
-
-pub returns-in-InvalidGroup : goal.returns-in-InvalidGroup
-returns-in-InvalidGroup c =
-    let judge = c.judge_groups-judged in
-    refused_so _ _ _ _ _ _ (sym judge.ensures.judged ∙ ap finding_of c.in-InvalidGroup.is)
+pub returns-in_err-judge_groups : goal.returns-in_err-judge_groups
+returns-in_err-judge_groups c =
+    let p = err_from_is_err_and c.from_residual.result c.from_residual.ensures.1 in
+    rw (p.1, p.2) (refused_so _ _ _ (sym (ap finding_of c.in_err-judge_groups.was) ∙ c.judge_groups.ensures.judged))

@@ -1,31 +1,24 @@
 -- `groups::open_judged` meets its contract: what opening the last group finds is what the rule says of its slots.
-use Rattle.std.proofs.Common.{arith, rules, ◌≡◌, ℕ, ◌-◌, ◌≤◌, List, map, length, take, sym, ◌∙◌, subst}
+use Rattle.std.proofs.Common.{Result, Ok, arith, rules, ◌≡◌, ℕ, ◌-◌, ◌≤◌, List, map, length, take, sym, ◌∙◌, subst}
 use lib.Seq.{length-take-le}
+use Rattle.std.proofs.lemmas.Result.{err_from_is_err_and}
 use Rattle.ray_tracing.specs.Groups.{Slot, group_count, group_of, open_group, slots_of}
 use Rattle.groups_judge.proofs.Laws.{fine_groups}
 use Rattle.groups_open.specs.Places.{counted, placed, JudgedFine}
-use Rattle.groups_open.specs.declared.Opened.{Opened}
-use Rattle.groups_open.specs.declared.Opened.TheVariants.{Slots}
+use Rattle.groups_open.specs.declared.Full.{Full}
 use Rattle.groups_open.proofs.Laws.{counted-all}
 use Rattle.groups.proofs.Calls.{over_so, short-so, found_within, wrote_so, counted_so, places_so, table_so}
 use Rattle.groups.proofs.open_judged.Goals as goal
 
 -- ---- the groups' count, and what judging shows of it
 
-pub u16_at-count-requires : goal.u16_at-count-requires
-u16_at-count-requires c = (fine_groups c.args.groups.now c.requires.0).whole
-
 pub slice_bounds-open_group-end : goal.slice_bounds-open_group-end
 slice_bounds-open_group-end c =
     let shown = fine_groups c.args.groups.now c.requires.0 in
     sym (length-take-le c.u16_at-count.result c.args.starts.now (omega (arith, c.u16_at-count.ensures, shown.most)))
 
-pub overflow_sub-count : goal.overflow_sub-count
-overflow_sub-count c =
-    let shown = fine_groups c.args.groups.now c.requires.0 in omega (arith, c.u16_at-count.ensures, shown.some)
-
-pub open_group-opened-requires : goal.open_group-opened-requires
-open_group-opened-requires c =
+pub open_group-requires : goal.open_group-requires
+open_group-requires c =
     let a = c.args in
     let count = c.u16_at-count.ensures in
     let shown = fine_groups a.groups.now c.requires.0 in
@@ -40,8 +33,8 @@ open_group-opened-requires c =
 
 -- ---- all slots were found
 
-module _ (s : List ℕ) (count n : ℕ) (r : Opened) (e : count ≡ group_count s) (answer : r ≡ counted 0 (open_group (group_of s) (count - 1))) (told : r ≡ Slots n) where
-  counted-there : counted 0 (slots_of s) ≡ Slots n
+module _ (s : List ℕ) (count n : ℕ) (r : Result ℕ Full) (e : count ≡ group_count s) (answer : r ≡ counted 0 (open_group (group_of s) (count - 1))) (told : r ≡ Ok n) where
+  counted-there : counted 0 (slots_of s) ≡ Ok n
   counted-there = counted_so s count e r answer ∙ told
 
   most : n ≤ 512
@@ -59,46 +52,48 @@ module _ (s : List ℕ) (count n : ℕ) (r : Opened) (e : count ≡ group_count 
 
 pub overflow_mul-n : goal.overflow_mul-n
 overflow_mul-n c =
-    omega (arith, most _ _ _ _ c.u16_at-count.ensures c.open_group-opened.ensures.answer c.in-Slots.is)
+    omega (arith, most _ _ _ _ c.u16_at-count.ensures c.open_group.ensures.answer c.in_ok-n.was)
 
 pub returns-then-slots-n : goal.returns-then-slots-n
 returns-then-slots-n c =
-    let called = c.open_group-opened in
-    short-so _ _ c.requires.0 _ (counted-there _ _ _ _ c.u16_at-count.ensures called.ensures.answer c.in-Slots.is)
+    let called = c.open_group in
+    short-so _ _ c.requires.0 _ (counted-there _ _ _ _ c.u16_at-count.ensures called.ensures.answer c.in_ok-n.was)
     c.if-slots-n.true
 
 pub slice_bounds-places-end : goal.slice_bounds-places-end
 slice_bounds-places-end c =
-    let called = c.open_group-opened in
-    omega (arith, most _ _ _ _ c.u16_at-count.ensures called.ensures.answer c.in-Slots.is, called.auto.places)
+    let called = c.open_group in
+    omega (arith, most _ _ _ _ c.u16_at-count.ensures called.ensures.answer c.in_ok-n.was, called.auto.places)
 
 pub slice_bounds-put_slots-end : goal.slice_bounds-put_slots-end
 slice_bounds-put_slots-end c =
-    let called = c.open_group-opened in
-    sym (found_length _ _ _ _ c.u16_at-count.ensures called.ensures.answer c.in-Slots.is _ called.auto.places)
+    let called = c.open_group in
+    sym (found_length _ _ _ _ c.u16_at-count.ensures called.ensures.answer c.in_ok-n.was _ called.auto.places)
 
 pub put_slots-requires : goal.put_slots-requires
 put_slots-requires c =
     let a = c.args in
     let count = c.u16_at-count.ensures in
-    let called = c.open_group-opened in
+    let called = c.open_group in
     let answer = called.ensures.answer in (
-      found_within a.groups.now a.slots.now c.requires.0 _ (counted-there _ _ _ _ count answer c.in-Slots.is) _
-          (there _ _ _ _ count answer c.in-Slots.is _ _ (search rules) called.ensures.places),
-      omega (arith, found_length _ _ _ _ count answer c.in-Slots.is _ called.auto.places, c.if-slots-n.false),
+      found_within a.groups.now a.slots.now c.requires.0 _ (counted-there _ _ _ _ count answer c.in_ok-n.was) _
+          (there _ _ _ _ count answer c.in_ok-n.was _ _ (search rules) called.ensures.places),
+      omega (arith, found_length _ _ _ _ count answer c.in_ok-n.was _ called.auto.places, c.if-slots-n.false),
     )
 
-pub returns-in-Full : goal.returns-in-Full
-returns-in-Full c =
+pub returns-in_err-n : goal.returns-in_err-n
+returns-in_err-n c =
     let a = c.args in
-    over_so a.groups.now a.slots.now c.requires.0 _ _
-    (counted_so a.groups.now c.u16_at-count.result c.u16_at-count.ensures _ c.open_group-opened.ensures.answer ∙ c.in-Full.is)
+    let p = err_from_is_err_and c.from_residual.result c.from_residual.ensures.1 in
+    rw (p.1, p.2)
+    (over_so a.groups.now a.slots.now c.requires.0 _
+    (counted_so a.groups.now c.u16_at-count.result c.u16_at-count.ensures _ c.open_group.ensures.answer ∙ c.in_err-n.was))
 
-pub returns-else-slots-n : goal.returns-else-slots-n
-returns-else-slots-n c =
+pub returns : goal.returns
+returns c =
     let a = c.args in
     let count = c.u16_at-count.ensures in
-    let called = c.open_group-opened in
+    let called = c.open_group in
     let answer = called.ensures.answer in
-    wrote_so a.groups.now a.slots.now c.requires.0 _ (counted-there _ _ _ _ count answer c.in-Slots.is) _
-    (there _ _ _ _ count answer c.in-Slots.is _ _ (search rules) called.ensures.places) c.if-slots-n.false _ c.put_slots.ensures
+    wrote_so a.groups.now a.slots.now c.requires.0 _ (counted-there _ _ _ _ count answer c.in_ok-n.was) _
+    (there _ _ _ _ count answer c.in_ok-n.was _ _ (search rules) called.ensures.places) c.if-slots-n.false _ c.put_slots.ensures

@@ -1,29 +1,26 @@
-use Rattle.std.proofs.Common.{arith, rules, ◌+◌, ◌*◌, refl, sym, ap, ◌∙◌, drop}
+use Rattle.std.proofs.Common.{arith, ◌≡◌, ◌+◌, ◌-◌, ◌<◌, sym, ap, ◌∙◌, get_or, drop, length}
 use lib.Seq.{sets}
 use Rattle.groups.specs.Items.{items_at}
 use Rattle.groups.proofs.Slots.{put_next, put_done}
 use Rattle.groups.proofs.put_slots.Goals as goal
 
-pub loop-k-init : goal.loop-k-init
-loop-k-init c = (refl, search rules)
-
--- the item at the next place is whole
-pub put_slot-requires : goal.put_slot-requires
-put_slot-requires c = (omega (arith, c.loop-k.auto.slots, c.requires.1), c.requires.0 c.loop-k.k (search rules))
-
-pub loop-k-preserved : goal.loop-k-preserved
-loop-k-preserved c =
-    let a = c.args in
-    let l = c.loop-k in (
-      l.invariant.0
+pub loop-at-preserved : goal.loop-at-preserved
+loop-at-preserved c =
+    let s = c.args.groups.now in
+    let places = c.args.places.now in
+    let l = c.loop-at in
+    let k = l.at-index in
+    let at = get_or places k 0 in
+    let more : k < length places = omega arith in
+    let item : at + 56 - at ≡ 56 = omega arith in (
+      omega arith,
+      l.invariant.1
           ∙ sym
-          (ap (λ x. sets x ((l.k + 1) * 56) (items_at a.groups.now (drop (l.k + 1) a.places.now))) c.put_slot.ensures
-          ∙ put_next a.groups.now a.places.now l.slots l.k (search rules) (c.requires.0 l.k (search rules))),
-      search rules,
+          (ap (λ x. sets x (l.to + 56) (items_at s (drop (k + 1) places))) (rw item at c.put_bytes.ensures)
+          ∙ put_next s places l.slots l.to k more (c.requires.0 k more)),
     )
 
 pub returns : goal.returns
 returns c =
-    let a = c.args in
-    let l = c.loop-k in
-    sym (l.invariant.0 ∙ put_done a.groups.now a.places.now l.slots l.k (search rules))
+    let l = c.loop-at in
+    sym (l.invariant.1 ∙ put_done c.args.groups.now c.args.places.now l.slots l.to l.at-index (omega arith))

@@ -1,11 +1,8 @@
 -- `groups_judge::judge_groups` meets its contract. The invariant: the groups left are judged as the whole, and those passed are in the
 -- table.
-use Rattle.std.proofs.Common.{◌-◌, ◌≤◌, length}
+use Rattle.std.proofs.Common.{◌≤◌, length}
 use Rattle.groups_judge.proofs.Steps.{Ahead}
 use Rattle.groups_judge.proofs.judge_groups.Given as goal
 
 abbrev pub invariant-loop-g : goal.invariant-loop-g
-invariant-loop-g l = (l.g ≤ l.count) × (l.at ≤ length l.groups) × Ahead l.groups l.starts l.g l.at
-
-abbrev pub decreases-loop-g : goal.decreases-loop-g
-decreases-loop-g l = l.count - l.g
+invariant-loop-g l = (l.at ≤ length l.groups) × Ahead l.groups l.starts l.g l.at

@@ -5,7 +5,7 @@ use Rattle.groups_judge.proofs.judge_item.Goals as goal
 
 pub returns-then-groups-at-clause-judged : goal.returns-then-groups-at-clause-judged
 returns-then-groups-at-clause-judged c =
-    let a = c.args in sym (item_cut a.groups.now a.group a.item a.at (omega arith))
+    let a = c.args in rw c.malformed.ensures (sym (item_cut a.groups.now a.group a.item a.at (omega arith)))
 
 pub returns-in-1 : goal.returns-in-1
 returns-in-1 c =
@@ -30,4 +30,4 @@ returns-in-2 c =
 pub returns-in_default-clause-judged : goal.returns-in_default-clause-judged
 returns-in_default-clause-judged c =
     let byte = c.u8_at.ensures in
-    sym (item-other _ _ _ _ (omega arith) (λ e. omega arith) (λ e. omega arith))
+    rw c.malformed-in_default.ensures (sym (item-other _ _ _ _ (omega arith) (λ e. omega arith) (λ e. omega arith)))

@@ -1,4 +1,5 @@
 use Rattle.std.proofs.Common.{arith, ◌≡◌, sym, ◌∙◌}
+use Rattle.std.proofs.lemmas.Result.{err_from_is_err_and}
 use Rattle.wire.specs.Wire.{le_at}
 use Rattle.groups_judge.proofs.Laws.{size-named, item_begins, item-inside, item_earlier}
 use Rattle.groups_open.proofs.Laws.{rest_all, rest_none, rest_more, rest-stop, item_room, item_full, item-group, fine-all, fine-first, fine_more, group-fine}
@@ -18,64 +19,62 @@ open_group-loop-i-init t c =
     let judged = c.requires.0.0 in
     let in_table = c.requires.0.1 in
     let count = c.u16_at-count.ensures in (
-      omega arith,
       omega (arith, c.requires.1.1),
       fine-all _ _ _ _ (group-fine _ _ _ judged in_table) count,
       rest_all _ _ _ _ _ _ (judged.place _ in_table) count,
     )
 
-pub open_group-open_item-opened-requires : goal.open_group-open_item-opened-requires
-open_group-open_item-opened-requires t c =
+pub open_group-open_item-requires : goal.open_group-open_item-requires
+open_group-open_item-requires t c =
     let l = c.loop-i in (
       omega (arith, c.decreases),
       (
-        (c.requires.0.0, (c.requires.0.1, fine-first _ _ _ _ l.i c.loop-i-test.true l.invariant.2)),
-        (omega (arith, l.auto.places, c.requires.1.0), omega (arith, l.invariant.1)),
+        (c.requires.0.0, (c.requires.0.1, fine-first _ _ _ _ l.i (omega arith) l.invariant.1)),
+        (omega (arith, l.auto.places, c.requires.1.0), omega (arith, l.invariant.0)),
       ),
     )
 
-pub open_group-returns-in_default : goal.open_group-returns-in_default
-open_group-returns-in_default t c =
+pub open_group-returns-in_err-total : goal.open_group-returns-in_err-total
+open_group-returns-in_err-total t c =
     let l = c.loop-i in
-    let called = c.open_item-opened in
+    let called = c.open_item.ensures in
+    let p = err_from_is_err_and c.from_residual.result c.from_residual.ensures.1 in
     let found =
-    rest-stop _ _ _ _ _ l.places l.total l.at l.i l.invariant.3 l.invariant.1 c.loop-i-test.true called.result _
-    (called.ensures.answer, called.ensures.places) _ _ c.in_default.is in
-    record { answer = found.0; places = found.1 }
+    rest-stop _ _ _ _ _ l.places l.total l.at l.i l.invariant.2 l.invariant.0 (omega arith) _ _ (called.answer, called.places) _
+    c.in_err-total.was in
+    rw (p.1, p.2) (record { answer = found.0; places = found.1 })
 
 pub open_group-item_size-at-requires : goal.open_group-item_size-at-requires
 open_group-item_size-at-requires t c =
     let l = c.loop-i in
     let a = c.args in
-    let first = fine-first a.groups.now a.group c.u16_at-count.result l.at l.i c.loop-i-test.true l.invariant.2 in
+    let first = fine-first a.groups.now a.group c.u16_at-count.result l.at l.i (omega arith) l.invariant.1 in
     omega (arith, item_begins a.groups.now a.group l.i l.at first)
 
 pub open_group-overflow_add-at-in-loop-i : goal.open_group-overflow_add-at-in-loop-i
 open_group-overflow_add-at-in-loop-i t c =
     let l = c.loop-i in
     let a = c.args in
-    let first = fine-first a.groups.now a.group c.u16_at-count.result l.at l.i c.loop-i-test.true l.invariant.2 in
+    let first = fine-first a.groups.now a.group c.u16_at-count.result l.at l.i (omega arith) l.invariant.1 in
     omega (arith, item-inside a.groups.now a.group l.i l.at first, c.item_size-at.ensures, c.well_formed.0.0)
 
 pub open_group-loop-i-preserved : goal.open_group-loop-i-preserved
 open_group-loop-i-preserved t c =
     let l = c.loop-i in
-    let more = c.loop-i-test.true in
-    let called = c.open_item-opened in
+    let called = c.open_item.ensures in
     let size = c.item_size-at.ensures in
     let next =
-    rest_more _ _ _ _ _ l.places l.total l.at l.i l.invariant.3 l.invariant.1 more called.result _
-    (called.ensures.answer, called.ensures.places) _ _ size c.in-Slots.is in (
-      omega (arith, more),
+    rest_more _ _ _ _ _ l.places l.total l.at l.i l.invariant.2 l.invariant.0 (omega arith) _ _ (called.answer, called.places) _ _ size
+    c.in_ok-total.was in (
       next.0,
-      fine_more _ _ _ _ l.i more l.invariant.2 _ size,
+      fine_more _ _ _ _ l.i (omega arith) l.invariant.1 _ size,
       next.1,
     )
 
 pub open_group-returns : goal.open_group-returns
 open_group-returns t c =
     let l = c.loop-i in
-    let found = rest_none _ _ _ _ _ _ _ _ l.i l.invariant.3 l.invariant.1 c.loop-i-test.false in
+    let found = rest_none _ _ _ _ _ _ _ _ l.i l.invariant.2 l.invariant.0 (omega arith) in
     record { answer = found.0; places = found.1 }
 
 pub open_item-u8_at-requires : goal.open_item-u8_at-requires

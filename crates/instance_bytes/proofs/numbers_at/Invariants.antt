@@ -1,5 +1,5 @@
 -- The invariant: the first k elements of both arrays are those of the first k u32s.
-use Rattle.std.proofs.Common.{◌-◌, ◌≡◌, ◌≤◌, ℕ, List, map, length, take}
+use Rattle.std.proofs.Common.{◌≡◌, ℕ, List, map, length, take}
 use Rattle.std.specs.Prelude.{Float}
 use Rattle.std.specs.Float.{binary32}
 use Rattle.std.specs.Float.Ieee.{of_bits}
@@ -15,11 +15,7 @@ kept s at = map nan_of (words_at 12 s at)
 
 abbrev pub invariant-loop-k : goal.invariant-loop-k
 invariant-loop-k l =
-    (l.k ≤ 12)
-    × (length l.values ≡ 12)
+    (length l.values ≡ 12)
     × (take l.k l.values ≡ take l.k (numbers l.s l.at))
     × (length l.nan_bits ≡ 12)
     × (take l.k l.nan_bits ≡ take l.k (kept l.s l.at))
-
-abbrev pub decreases-loop-k : goal.decreases-loop-k
-decreases-loop-k l = 12 - l.k

@@ -9,7 +9,7 @@ pub returns : goal.returns
 returns c =
     let a = c.args in
     sets_three a.out.now a.at 4 8 (le_bytes 4 (a.custom_data + 2 ^ 24 * a.mask)) (le_bytes 4 0) (le_bytes 8 a.address)
-    c.put_u32.ensures
+    (rw c.from.ensures at c.put_u32.ensures)
     c.put_u32-2.ensures
     c.put_u64.ensures
     (length-le_bytes 4 _)

@@ -9,7 +9,7 @@ use Rattle.instance_bytes.proofs.put_transform.Goals as goal
 
 pub loop-k-init : goal.loop-k-init
 unfolding words
-loop-k-init c = (omega arith, refl)
+loop-k-init c = refl
 
 pub loop-k-preserved : goal.loop-k-preserved
 loop-k-preserved c =
@@ -17,14 +17,12 @@ loop-k-preserved c =
     let ns = c.args.nan_bits in
     let k = c.loop-k.k in
     let lx : length xs ≡ 12 = search rules in
-    let ln : length ns ≡ 12 = search rules in (
-      omega arith,
-      put_more c.args.out.now c.args.at k (patterns xs ns) c.bits_of_number.result
-          (omega (arith, length-patterns xs ns (omega arith)))
-          (c.bits_of_number.ensures ∙ sym (get_or-patterns xs ns k 0 (omega arith) (omega arith)))
-          c.loop-k.invariant.1
-          c.put_u32.ensures,
-    )
+    let ln : length ns ≡ 12 = search rules in
+    put_more c.args.out.now c.args.at k (patterns xs ns) c.bits_of_number.result
+    (omega (arith, length-patterns xs ns (omega arith)))
+    (c.bits_of_number.ensures ∙ sym (get_or-patterns xs ns k 0 (omega arith) (omega arith)))
+    c.loop-k.invariant
+    c.put_u32.ensures
 
 pub returns : goal.returns
 returns c =
@@ -32,6 +30,6 @@ returns c =
     let ns = c.args.nan_bits in
     let lx : length xs ≡ 12 = search rules in
     let ln : length ns ≡ 12 = search rules in
-    c.loop-k.invariant.1
+    c.loop-k.invariant
     ∙ ap (λ (l : List ℕ). sets c.args.out.now c.args.at (words l))
     (take_all c.loop-k.k (patterns xs ns) (omega (arith, length-patterns xs ns (omega arith))))

@@ -1,6 +1,8 @@
 -- `instance_many::append_instances` meets its contract: what judging finds is the answer, and what was judged fine may be written.
 use Rattle.std.proofs.Common.{◌≡◌, ℕ, ◌+◌, ◌*◌, List, length, refl, sym, ap, ◌∙◌, arith}
 use Rattle.std.proofs.lemmas.List.Edits.{sets}
+use Rattle.std.proofs.lemmas.Grind.{common_steps}
+use Rattle.std.proofs.lemmas.Result.{err_from_is_err_and}
 use Rattle.ray_tracing.specs.declared.TlasId.{TlasId}
 use Rattle.ray_tracing.specs.Mentions.{tlas_of}
 use Rattle.ray_tracing.specs.Code.{verdict_of}
@@ -29,42 +31,39 @@ module _ (tlases blases : List ℕ) (tlas : TlasId) (items b : List ℕ) (used :
 
 -- what judging shows where it refuses nothing: they may be written
 
-pub overflow_add-end : goal.overflow_add-end
-overflow_add-end c =
-    let a = c.args in
-    let may = judged_fine a.tlases.now a.blases.now a.tlas a.items.now (length a.instances.now) a.used
-    (sym c.judge_many-judged.ensures ∙ ap verdict_of c.in-Passed.is) in
-    omega (arith, may.fits)
-
 pub put_many-requires-clause-lent_size_in_bounds :
     goal.put_many-requires-clause-lent_size_in_bounds
 put_many-requires-clause-lent_size_in_bounds c =
     let a = c.args in
-    let may = judged_fine a.tlases.now a.blases.now a.tlas a.items.now (length a.instances.now) a.used
-    (sym c.judge_many-judged.ensures ∙ ap verdict_of c.in-Passed.is) in
-    (omega arith, omega (arith, may.fits))
+    grind (arith, common_steps, judged_fine a.tlases.now a.blases.now a.tlas a.items.now (length a.instances.now) a.used)
 
 pub put_many-requires-clause-by_index : goal.put_many-requires-clause-by_index
 put_many-requires-clause-by_index c k h =
     let a = c.args in
     let may = judged_fine a.tlases.now a.blases.now a.tlas a.items.now (length a.instances.now) a.used
-    (sym c.judge_many-judged.ensures ∙ ap verdict_of c.in-Passed.is) in
-    let items = a.items.now in
-    let both = inside-narrow (tlas_of a.tlases.now a.tlas.0) a.blases.now (lent_instance items k) (may.each k h) in
+    (sym c.judge_many.ensures ∙ ap verdict_of c.in_ok-judge_many.was) in
+    let both = inside-narrow (tlas_of a.tlases.now a.tlas.0) a.blases.now (lent_instance a.items.now k) (may.each k h) in
     record { inside = both.0; narrow = both.1 }
 
-pub returns-in-Refused : goal.returns-in-Refused
-returns-in-Refused c =
+pub overflow_add-result : goal.overflow_add-result
+overflow_add-result c =
     let a = c.args in
-    by_verdict a.tlases.now a.blases.now a.tlas a.items.now a.instances.now a.used
-    (sym c.judge_many-judged.ensures ∙ ap verdict_of c.in-Refused.is)
-    refl
-    refl
+    grind (arith, common_steps, judged_fine a.tlases.now a.blases.now a.tlas a.items.now (length a.instances.now) a.used)
 
-pub returns-in-Passed : goal.returns-in-Passed
-returns-in-Passed c =
+pub returns-in_err-judge_many : goal.returns-in_err-judge_many
+returns-in_err-judge_many c =
+    let a = c.args in
+    let p = err_from_is_err_and c.from_residual.result c.from_residual.ensures.1 in
+    rw (p.1, p.2)
+    (by_verdict a.tlases.now a.blases.now a.tlas a.items.now a.instances.now a.used
+    (sym c.judge_many.ensures ∙ ap verdict_of c.in_err-judge_many.was)
+    refl
+    refl)
+
+pub returns : goal.returns
+returns c =
     let a = c.args in
     by_verdict a.tlases.now a.blases.now a.tlas a.items.now a.instances.now a.used
-    (sym c.judge_many-judged.ensures ∙ ap verdict_of c.in-Passed.is)
+    (sym c.judge_many.ensures ∙ ap verdict_of c.in_ok-judge_many.was)
     (ap all_in_use (omega arith))
     c.put_many.ensures

@@ -3,5 +3,5 @@ use Rattle.report.proofs.put_refused.Goals as goal
 
 pub returns : goal.returns
 returns c =
-    let told = c.sheet_refusal-refusal.ensures in
+    let told = c.into-refusal.ensures in
     record { put = rw told.numbers at c.put_line-end.ensures; refuses = told }

@@ -7,20 +7,20 @@ use borrow.Author.Rules.{rules}
 use Rattle.report.proofs.put_report.Goals as goal
 
 pub put_accepted-requires : goal.put_accepted-requires
-put_accepted-requires c = (sym c.read_sheet.ensures ∙ ap reading_of c.in-Accepted.is, search rules)
+put_accepted-requires c = (sym c.read_sheet.ensures ∙ ap reading_of c.in-Ok.is, search rules)
 
-pub returns-in-Accepted : goal.returns-in-Accepted
+pub returns-in-Ok : goal.returns-in-Ok
 unfolding report refusal_in
-returns-in-Accepted c =
+returns-in-Ok c =
     record {
-      put = rw (← c.read_sheet.ensures, c.in-Accepted.is) c.put_accepted.ensures.put;
-      refuses = rw (← c.read_sheet.ensures, c.in-Accepted.is) c.put_accepted.ensures.refuses;
+      put = rw (← c.read_sheet.ensures, c.in-Ok.is) c.put_accepted.ensures.put;
+      refuses = rw (← c.read_sheet.ensures, c.in-Ok.is) c.put_accepted.ensures.refuses;
     }
 
-pub returns-in-Refused : goal.returns-in-Refused
+pub returns-in-Err : goal.returns-in-Err
 unfolding report refusal_in
-returns-in-Refused c =
+returns-in-Err c =
     record {
-      put = rw (← c.read_sheet.ensures, c.in-Refused.is) c.put_refused.ensures.put;
-      refuses = rw (← c.read_sheet.ensures, c.in-Refused.is) c.put_refused.ensures.refuses;
+      put = rw (← c.read_sheet.ensures, c.in-Err.is) c.put_refused.ensures.put;
+      refuses = rw (← c.read_sheet.ensures, c.in-Err.is) c.put_refused.ensures.refuses;
     }

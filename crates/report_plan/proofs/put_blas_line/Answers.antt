@@ -2,4 +2,4 @@
 use Rattle.report_plan.proofs.put_blas_line.Goals as goal
 
 pub returns : goal.returns
-returns c = rw c.u16_at.ensures at c.put_line.ensures
+returns c = rw (c.from.ensures, c.u16_at.ensures) at c.put_line.ensures

@@ -8,7 +8,4 @@ use Rattle.report_plan.specs.Lines.{blas_lines_of}
 use Rattle.report_plan.proofs.put_blas_lines.Given as goal
 
 abbrev pub invariant-loop-i : goal.invariant-loop-i
-invariant-loop-i l = (l.i ≤ l.n) × ((l.end + (l.n - l.i) * longest_line word-blas 2 ≤ length l.out) × Left l.initial.out l.at (blas_lines_of l.entries l.offsets 0 l.n) l.end l.out (blas_lines_of l.entries l.offsets l.i (l.n - l.i)))
-
-abbrev pub decreases-loop-i : goal.decreases-loop-i
-decreases-loop-i l = l.n - l.i
+invariant-loop-i l = (l.end + (l.i-end - l.i) * longest_line word-blas 2 ≤ length l.out) × Left l.initial.out l.at (blas_lines_of l.entries l.offsets 0 l.i-end) l.end l.out (blas_lines_of l.entries l.offsets l.i (l.i-end - l.i))

@@ -2,35 +2,32 @@
 use Rattle.std.proofs.Common.{arith, [], ◌∷◌}
 use Rattle.ray_tracing.specs.Report.{word_scratch}
 use Rattle.ray_tracing.specs.Parts.{entries_in}
-use Rattle.report_text.proofs.Laws.{put_nothing, put_then, put_same_length, line-most}
+use Rattle.report_text.proofs.Laws.{put_then, put_same_length, line-most}
 use Rattle.report_plan.proofs.Laws.{blas_lines-most}
 use Rattle.report_plan.proofs.put_plan.Goals as goal
-
-pub returns-then-not-recorded : goal.returns-then-not-recorded
-returns-then-not-recorded c = rw c.if-not-recorded.true (put_nothing _ _)
 
 pub put_blas_lines-next-requires-clause-word_blas_in_bounds : goal.put_blas_lines-next-requires-clause-word_blas_in_bounds
 put_blas_lines-next-requires-clause-word_blas_in_bounds c =
     let scratch = c.put_line-end.ensures in
-    omega (arith, c.requires, put_same_length scratch, scratch.ends, line-most word_scratch (c.args.size ∷ []))
+    omega (arith, c.requires, put_same_length scratch, scratch.ends, line-most word_scratch (c.in-Some.size ∷ []))
 
 pub put_tlas_lines-requires-clause-word_tlas_in_bounds : goal.put_tlas_lines-requires-clause-word_tlas_in_bounds
 put_tlas_lines-requires-clause-word_tlas_in_bounds c =
     let blases = c.put_blas_lines-next.ensures in
     let scratch = c.put_line-end.ensures in
-    let a = c.args in
+    let entries = c.args.tables.now.entries.now in
     omega (
       arith,
       c.requires,
       put_same_length scratch,
       scratch.ends,
-      line-most word_scratch (a.size ∷ []),
+      line-most word_scratch (c.in-Some.size ∷ []),
       put_same_length blases,
       blases.ends,
-      blas_lines-most a.entries.now a.blas_offsets.now 0 (entries_in a.entries.now),
+      blas_lines-most entries c.args.outputs.now.blas_offsets.now 0 (entries_in entries),
     )
 
 pub returns : goal.returns
 returns c =
-    rw c.if-not-recorded.false
+    rw c.in-Some.is
     (put_then c.put_line-end.ensures (put_then c.put_blas_lines-next.ensures c.put_tlas_lines.ensures))

@@ -8,7 +8,4 @@ use Rattle.report_plan.specs.Lines.{tlas_lines_of}
 use Rattle.report_plan.proofs.put_tlas_lines.Given as goal
 
 abbrev pub invariant-loop-p : goal.invariant-loop-p
-invariant-loop-p l = (l.p ≤ l.n) × ((l.end + (l.n - l.p) * longest_line word-tlas 4 ≤ length l.out) × Left l.initial.out l.at (tlas_lines_of l.packages l.offsets l.ranges 0 l.n) l.end l.out (tlas_lines_of l.packages l.offsets l.ranges l.p (l.n - l.p)))
-
-abbrev pub decreases-loop-p : goal.decreases-loop-p
-decreases-loop-p l = l.n - l.p
+invariant-loop-p l = (l.end + (l.p-end - l.p) * longest_line word-tlas 4 ≤ length l.out) × Left l.initial.out l.at (tlas_lines_of l.packages l.offsets l.ranges 0 l.p-end) l.end l.out (tlas_lines_of l.packages l.offsets l.ranges l.p (l.p-end - l.p))

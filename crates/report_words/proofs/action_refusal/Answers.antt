@@ -6,4 +6,5 @@ use Rattle.report_words.proofs.action_refusal.Goals as goal
 
 pub returns : goal.returns
 returns c = let a = c.args in
-    rw (c.refused_by.ensures ∙ ap (refused_by 3 a.i a.kind) c.submission_figures.ensures) (action-told a.error a.i a.kind)
+    let refused = rw c.from.ensures at c.refused_by.ensures in
+    rw (refused ∙ ap (refused_by 3 a.i a.kind) c.submission_figures.ensures) (action-told a.error a.i a.kind)

@@ -1,9 +1,8 @@
 -- `sheet::read_sheet` meets its contract: `Known` after each section.
-use Prim.Native.Nat.{◌+◌, ◌≤◌}
+use Prim.Native.Nat.{◌+◌}
 use native.Mathlib.Omega.{arith}
 use mathlib.Core.Path.{◌≡◌, refl, sym, ap, ◌∙◌}
-use lib.ListN.{length}
-use Rattle.wire.specs.Wire.{le_at}
+use Rattle.std.proofs.lemmas.Result.{err_from_is_err_and}
 use Rattle.ray_tracing.specs.declared.Version.{Version}
 use Rattle.ray_tracing.specs.Layout.{size_in}
 use Rattle.ray_tracing.specs.Reading.{fine, version_in, past, from, judge_section, accepted}
@@ -12,57 +11,56 @@ use Rattle.sheet.specs.Found.{judge_header}
 use Rattle.sheet.proofs.Sections.{header_refused, header-fine, header-there, count_there, count_early, section_early, known_next, refused-at, left_over, read, sheet-found}
 use Rattle.sheet.proofs.read_sheet.Goals as goal
 
-pub returns-in-Refused : goal.returns-in-Refused
-returns-in-Refused c = sym (header_refused _ _ _ (sym c.judge_header.ensures ∙ ap judged_of c.in-Refused.is))
+pub returns-in_err-judge_header : goal.returns-in_err-judge_header
+returns-in_err-judge_header c =
+    let e = err_from_is_err_and c.from_residual.result c.from_residual.ensures.1 in
+    rw (e.1, e.2) (sym (header_refused _ _ _ (sym c.judge_header.ensures ∙ ap judged_of c.in_err-judge_header.was)))
 
 pub loop-k-init : goal.loop-k-init
 unfolding from past
 loop-k-init c =
     -- a header that is not refused is there
-    let f : judge_header c.args.sheet.now ≡ fine = sym c.judge_header.ensures ∙ ap judged_of c.in_default.is in
+    let f : judge_header c.args.sheet.now ≡ fine = sym c.judge_header.ensures ∙ ap judged_of c.in_ok-judge_header.was in
     record {
-      within = omega arith;
       order = omega arith;
       header = omega (arith, c.size_of-p.ensures);
       whole = omega (arith, c.size_of-p.ensures, header-there c.args.sheet.now f);
-      starts = refl;
-      counts = refl;
+      nine = refl;
       begins = rw c.size_of-p.ensures;
       ends = rw c.size_of-p.ensures;
-      start_is = λ j h. absurd (omega arith);
-      count_is = λ j h. absurd (omega arith);
+      found_is = λ j h. absurd (omega arith);
       judged = header-fine _ f;
     }
 
-pub returns-in_default-read_count : goal.returns-in_default-read_count
-returns-in_default-read_count c =
+pub returns-in_default : goal.returns-in_default
+returns-in_default c =
     let l = c.loop-k in
-    sym
-    (refused-at _ _ _ _ _ _ l.invariant 2 l.p c.loop-k-test.true (section_early _ l.k l.a l.p (count_early c.args.sheet.now l.p (sym c.read_count.ensures ∙ c.in_default-read_count.is))))
+    let early = rw (c.new-reader.ensures.0, c.new-reader.ensures.1) at (sym c.count.ensures ∙ c.in_default.is) in
+    sym (refused-at _ _ _ _ _ l.invariant 2 l.p c.loop-k-test.true (section_early _ l.k l.a l.p (count_early c.args.sheet.now l.p early)))
 
-pub returns-in-Refused-read_section : goal.returns-in-Refused-read_section
-returns-in-Refused-read_section c =
-    sym
-    (refused-at _ _ _ _ _ _ c.loop-k.invariant _ _ c.loop-k-test.true (sym c.read_section.ensures ∙ ap judged_of c.in-Refused-read_section.is))
+pub returns-in_err-section : goal.returns-in_err-section
+returns-in_err-section c =
+    let e = err_from_is_err_and c.from_residual-in_err-section.result c.from_residual-in_err-section.ensures.1 in
+    let judged = rw (c.new-reader.ensures.0, c.new-reader.ensures.1) at (sym c.section.ensures ∙ ap judged_of c.in_err-section.was) in
+    rw (e.1, e.2) (sym (refused-at _ _ _ _ _ c.loop-k.invariant _ _ c.loop-k-test.true judged))
 
 pub loop-k-preserved : goal.loop-k-preserved
 loop-k-preserved c =
     let s = c.args.sheet.now in
     let l = c.loop-k in
     -- the count is there
-    let counted : (l.p + 2 ≤ length s) × (c.in-Records.n ≡ le_at 2 s l.p) = count_there _ _ _ (sym c.read_count.ensures ∙ c.in-Records.is) in
-    let judged : judge_section s l.k l.a l.p ≡ fine = sym c.read_section.ensures ∙ ap judged_of c.in_default-read_section.is in
+    let counted = count_there _ _ _ (rw (c.new-reader.ensures.0, c.new-reader.ensures.1) at (sym c.count.ensures ∙ c.in-Some.is)) in
+    let judged : judge_section s l.k l.a l.p ≡ fine = rw (c.new-reader.ensures.0, c.new-reader.ensures.1) at (sym c.section.ensures ∙ ap judged_of c.in_ok-section.was) in
     -- a record's size is that of the sheet's version
     let sized : c.size_of.result ≡ size_in (version_in s) (l.k + 1) = c.size_of.ensures ∙ ap (λ (v : Version). size_in v (l.k + 1)) c.version_in-version.ensures in
-    rw (counted.1, sized)
-    (known_next _ _ _ _ _ _ l.invariant c.loop-k-test.true judged)
+    rw (c.from-count.ensures, counted.1, sized)
+    (known_next _ _ _ _ _ l.invariant c.loop-k-test.true judged)
 
 pub returns-then-p-sheet : goal.returns-then-p-sheet
-returns-then-p-sheet c = sym (left_over _ _ _ _ _ _ c.loop-k.invariant c.loop-k-test.false c.if-p-sheet.true)
+returns-then-p-sheet c = sym (left_over _ _ _ _ _ c.loop-k.invariant (omega arith) (omega arith))
 
 pub returns : goal.returns
 returns c =
     let g = c.loop-k.invariant in
-    let h = c.loop-k-test.false in
-    ap accepted (c.sheet_from.ensures ∙ sheet-found _ _ _ _ _ _ g h)
-    ∙ sym (read _ _ _ _ _ _ g h (omega arith))
+    ap accepted (c.sheet_from.ensures ∙ sheet-found _ _ _ _ _ g (omega arith))
+    ∙ sym (read _ _ _ _ _ g (omega arith) (omega arith))

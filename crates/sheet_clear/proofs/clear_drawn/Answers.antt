@@ -1,4 +1,5 @@
 -- `sheet_clear::clear_drawn` meets its contract: what the entries that are left draw, cleared, is what all was to be.
+use Prim.Native.Nat.{◌+◌, ◌-◌, ◌/◌, ◌<◌}
 use native.Mathlib.Omega.{arith}
 use mathlib.Core.Path.{◌≡◌, refl, ◌∙◌}
 use mathlib.Core.List.{flatten}
@@ -10,23 +11,27 @@ use Rattle.sheet_clear.proofs.clear_drawn.Goals as goal
 
 pub clear_records-requires : goal.clear_records-requires
 clear_records-requires c =
-    let l = c.loop-left in
+    let l = c.loop in
+    let left = length c.args.entries.now / 5 - l.counter in
+    let more : 0 < left = omega arith in
     -- the records of the next entry are there
-    ((omega arith, refl), (rw c.u16_at-n.ensures (drawn-there _ l.q l.left (size_in c.args.version 6) l.p _ c.loop-left-test.true l.invariant.0).0, λ e. absurd (omega arith)))
+    ((omega arith, refl), (rw c.u16_at-n.ensures (drawn-there _ l.q left (size_in c.args.version 6) l.p _ more l.invariant.0).0, λ e. absurd (omega arith)))
 
-pub loop-left-preserved : goal.loop-left-preserved
-loop-left-preserved c =
+pub loop-preserved : goal.loop-preserved
+loop-preserved c =
     let v = c.args.version in
     let e = c.args.entries.now in
-    let l = c.loop-left in
-    let taken = c.loop-left-test.true in
-    let there = drawn-there e l.q l.left (size_in v 6) l.p (length l.out) taken l.invariant.0 in
+    let l = c.loop in
+    let left = length e / 5 - l.counter in
+    let more : 0 < left = omega arith in
+    let next : length e / 5 - (l.counter + 1) ≡ left - 1 = omega arith in
+    let there = drawn-there e l.q left (size_in v 6) l.p (length l.out) more l.invariant.0 in
     let made = c.clear_records.ensures in
-    rw (c.size_of-size.ensures, c.size_of-each.ensures, c.u16_at-n.ensures) (
+    rw (next, c.size_of-size.ensures, c.u16_at-n.ensures) (
       omega (arith, there.1),
       (
         omega arith,
-        drawn-next v e l.q l.out l.p l.left there.0 taken (made ∙ rw (c.u8_at-boxes.ensures, c.u16_at-n.ensures))
+        drawn-next v e l.q l.out l.p left there.0 more (made ∙ rw (c.u8_at-boxes.ensures, c.u16_at-n.ensures))
             ∙ l.invariant.1.1,
       ),
     )
@@ -34,5 +39,5 @@ loop-left-preserved c =
 pub returns : goal.returns
 unfolding drawn_from flatten
 returns c =
-    let z : c.loop-left.left ≡ 0 = omega arith in
-    rw z at c.loop-left.invariant.1.1
+    let z : length c.args.entries.now / 5 - c.loop.counter ≡ 0 = omega arith in
+    rw z at c.loop.invariant.1.1

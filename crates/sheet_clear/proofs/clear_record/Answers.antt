@@ -14,15 +14,15 @@ last_is : (k : ℕ) → has_unused k ≡ true → (k ≡ 3 → ⊥) → (k ≡ 6
 last_is k h a b d = eqb-true k 9 (rw (ne_eqb k 3 a, ne_eqb k 6 b, ne_eqb k 8 d) at h)
 
 pub returns-in-3 : goal.returns-in-3
-returns-in-3 c = rw c.in-3.is (c.clear_declared.ensures c.args.version c.args.boxes)
+returns-in-3 c = rw c.in-3.is (c.clear_declared.ensures c.args.section.now.version c.args.boxes)
 
 pub returns-in-6 : goal.returns-in-6
-returns-in-6 c = rw c.in-6.is (c.clear_geometry.ensures (begin (size 5) c.args.before.now c.args.boxes) refl)
+returns-in-6 c = rw c.in-6.is (c.clear_geometry.ensures (begin (size 5) c.args.section.now.before.now c.args.boxes) refl)
 
 pub returns-in-8 : goal.returns-in-8
-returns-in-8 c = rw c.in-8.is (c.clear_slot.ensures c.args.version (begin (size 7) c.args.before.now c.args.boxes))
+returns-in-8 c = rw c.in-8.is (c.clear_slot.ensures c.args.section.now.version (begin (size 7) c.args.section.now.before.now c.args.boxes))
 
 pub returns-in_default : goal.returns-in_default
 returns-in_default c =
-    let ninth : c.args.section ≡ 9 = last_is c.args.section c.requires.0.1 (λ e. omega arith) (λ e. omega arith) (λ e. omega arith) in
-    rw ninth (c.clear_action.ensures c.args.version (begin (size 8) c.args.before.now c.args.boxes))
+    let ninth : c.args.section.now.number ≡ 9 = last_is c.args.section.now.number c.requires.0.1 (λ e. omega arith) (λ e. omega arith) (λ e. omega arith) in
+    rw ninth (c.clear_action.ensures c.args.section.now.version (begin (size 8) c.args.section.now.before.now c.args.boxes))

@@ -1,5 +1,5 @@
 -- `sheet_clear::clear_records` meets its contract: the records that are left, cleared, are what all were to be.
-use Prim.Native.Nat.{◌+◌, ◌-◌, ◌≤◌}
+use Prim.Native.Nat.{◌+◌, ◌-◌, ◌≤◌, ◌<◌}
 use native.Mathlib.Omega.{arith}
 use mathlib.Core.Path.{◌≡◌, ◌∙◌}
 use mathlib.Core.List.{flatten}
@@ -11,24 +11,28 @@ use Rattle.ray_tracing.proofs.Reading.{one_less}
 use Rattle.sheet_clear.proofs.Records.{records_next, blases-next}
 use Rattle.sheet_clear.proofs.clear_records.Goals as goal
 
-pub loop-left-preserved : goal.loop-left-preserved
-loop-left-preserved c =
+pub loop-preserved : goal.loop-preserved
+loop-preserved c =
     let a = c.args in
-    let l = c.loop-left in
-    let seen = begin (size_in a.version (a.section - 1)) a.before.now a.boxes in
+    let k = a.section.now in
+    let l = c.loop in
+    let left = a.n - l.counter in
+    let more : 0 < left = omega arith in
+    let next : a.n - (l.counter + 1) ≡ left - 1 = omega arith in
+    let seen = begin (size_in k.version (k.number - 1)) k.before.now a.boxes in
     -- the next record is there
-    let there : l.p + size_in a.version a.section ≤ length l.out = omega (arith, one_less l.left (size_in a.version a.section) c.loop-left-test.true) in
+    let there : l.p + size_in k.version k.number ≤ length l.out = omega (arith, one_less left (size_in k.version k.number) more) in
     let made = c.clear_record.ensures in
-    rw c.size_of-size.ensures (
-      omega (arith, one_less l.left (size_in a.version a.section) c.loop-left-test.true),
+    rw (next, c.size_of-size.ensures) (
+      omega (arith, one_less left (size_in k.version k.number) more),
       (
-        blases-next a.version a.section seen a.before.now l.out l.p l.left there made l.invariant.1.0,
-        records_next a.version a.section seen l.out l.p l.left there c.loop-left-test.true made ∙ l.invariant.1.1,
+        blases-next k.version k.number seen k.before.now l.out l.p left there made l.invariant.1.0,
+        records_next k.version k.number seen l.out l.p left there more made ∙ l.invariant.1.1,
       ),
     )
 
 pub returns : goal.returns
 unfolding records_from flatten
 returns c =
-    let z : c.loop-left.left ≡ 0 = omega arith in
-    rw z at c.loop-left.invariant.1.1
+    let z : c.args.n - c.loop.counter ≡ 0 = omega arith in
+    rw z at c.loop.invariant.1.1

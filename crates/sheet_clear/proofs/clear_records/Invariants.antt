@@ -7,12 +7,9 @@ use Rattle.sheet_clear.specs.Cleared.{BlasesInside}
 use Rattle.sheet_clear.proofs.Records.{records_cleared}
 use Rattle.sheet_clear.proofs.clear_records.Given as goal
 
-abbrev pub invariant-loop-left : goal.invariant-loop-left
-invariant-loop-left l =
-    (l.p + l.left * size_in l.version l.section ≤ length l.out)
-    × (BlasesInside l.section l.before l.out l.p l.left
-    × (sets l.out l.p (records_cleared l.version l.section (begin (size_in l.version (l.section - 1)) l.before l.boxes) l.out l.p l.left)
-    ≡ sets l.initial.out l.at (records_cleared l.version l.section (begin (size_in l.version (l.section - 1)) l.before l.boxes) l.initial.out l.at l.n)))
-
-abbrev pub decreases-loop-left : goal.decreases-loop-left
-decreases-loop-left l = l.left
+abbrev pub invariant-loop : goal.invariant-loop
+invariant-loop l =
+    (l.p + (l.n - l.counter) * size_in l.section.version l.section.number ≤ length l.out)
+    × (BlasesInside l.section.number l.section.before.now l.out l.p (l.n - l.counter)
+    × (sets l.out l.p (records_cleared l.section.version l.section.number (begin (size_in l.section.version (l.section.number - 1)) l.section.before.now l.boxes) l.out l.p (l.n - l.counter))
+    ≡ sets l.initial.out l.at (records_cleared l.section.version l.section.number (begin (size_in l.section.version (l.section.number - 1)) l.section.before.now l.boxes) l.initial.out l.at l.n)))

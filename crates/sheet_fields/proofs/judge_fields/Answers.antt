@@ -1,122 +1,92 @@
 -- `sheet_fields::judge_fields` meets its contract: what is left of the fields, from the place reached, is judged as all of them are.
-use Prim.Native.Nat.{ℕ, ◌+◌, ◌-◌, ◌/◌, ◌%◌, ◌≤◌, ◌<◌}
-use native.Mathlib.Omega.{arith}
-use mathlib.Core.Bool.{Bool, true, false, or-false}
-use mathlib.Core.List.{List}
-use mathlib.Core.Path.{◌≡◌, sym, ◌∙◌}
-use lib.ListN.{length, get_or}
-use borrow.Author.Tests.{lt-ltb, le-ltb, ne_eqb}
+use Rattle.std.proofs.Common.{◌≡◌, refl, true, false, ℕ, List, ◌∷◌, ◌+◌, ◌≤◌, ◌<◌, length, drop, map, get_or, add-one, drop-cons, arith}
+use Rattle.std.proofs.lemmas.List.{drop_all}
 use Rattle.wire.specs.Wire.{le_at}
+use borrow.Author.Tests.{lt-ltb, le-ltb}
+use Rattle.ray_tracing.specs.declared.Version.{Version}
 use Rattle.ray_tracing.specs.Layout.{Seen}
 use Rattle.ray_tracing.specs.Reading.{Judged, refused}
-use Rattle.sheet_fields.specs.Table.{seen, judge_views, fields_from, fits_of, after_of}
-use Rattle.sheet_fields.proofs.Laws.{short, bad, good}
+use Rattle.sheet_fields.specs.declared.Width.TheVariants.{U8}
+use Rattle.sheet_fields.specs.declared.Rule.{Rule}
+use Rattle.sheet_fields.specs.declared.Rule.TheVariants.{Any, Always, Triangles, WithBuffer, Blas, OrNone}
+use Rattle.sheet_fields.specs.declared.Field.{Field}
+use Rattle.sheet_fields.specs.Table.{seen, untagged, judge_views, view_of, bytes_of, fits_of, after_of}
+use Rattle.sheet_fields.proofs.judge_fields.Goals.{in-Blas, in-OrNone, in_default}
 use Rattle.sheet_fields.proofs.judge_fields.Goals as goal
 
--- where a field was read from the table
-module _ (fields : List ℕ) (known : Seen) (list : List ℕ) (place k end : ℕ) (all : Judged) (h : k < end) (inv : judge_views known list place (fields_from fields k (end - k)) ≡ all) where
-  abbrev code : ℕ
-  code = get_or fields k 0
+-- field i of a table
+abbrev field : List Field → ℕ → Field
+field fs i = get_or fs i (record { 0 = U8; 1 = Any })
 
-  abbrev value : ℕ
-  value = le_at (code / 16) list place
+-- one field more
+module _ (v : Version) (fs : List Field) (c : Seen) (s : List ℕ) (p i : ℕ) (all : Judged) (h : i < length fs) (left : judge_views c s p (map (view_of v) (drop i fs)) ≡ all) where
+  here : map (view_of v) (drop i fs) ≡ view_of v (field fs i) ∷ map (view_of v) (drop (i + 1) fs)
+  here = rw (add-one, drop-cons fs i (record { 0 = U8; 1 = Any }))
 
-  cut : length list < place + code / 16 → refused 2 place ≡ all
-  cut l = sym (short _ known list place _ _ h l) ∙ inv
+  abbrev width : ℕ
+  width = bytes_of v (field fs i).0
 
-  module _ (whole : place + code / 16 ≤ length list) where
-    wrong : fits_of (code % 16) known value ≡ false → refused 5 place ≡ all
-    wrong f = sym (bad _ known list place _ _ h whole f) ∙ inv
+  abbrev rule : Rule
+  rule = (field fs i).1
 
-    next :
-        (boxes none : Bool)
-        → fits_of (code % 16) known value ≡ true
-        → after_of (code % 16) known value ≡ seen known.before known.each boxes none
-        → (place + code / 16 ≤ length list)
-        × (judge_views (seen known.before known.each boxes none) list (place + code / 16) (fields_from fields (k + 1) (end - (k + 1)))
-        ≡ all)
-    next boxes none f e = (
-      whole,
-      rw (← e)
-          (sym (good _ known list place _ _ h whole f) ∙ inv),
-    )
+  short : length s < p + width → refused 2 p ≡ all
+  unfolding judge_views
+  short l = rw (here, lt-ltb (length s) (p + width) l) at left
+
+  bad : p + width ≤ length s → fits_of rule c (le_at width s p) ≡ false → refused 5 p ≡ all
+  unfolding judge_views
+  bad l f = rw (here, le-ltb (length s) (p + width) l, f) at left
+
+  good :
+      p + width ≤ length s
+      → fits_of rule c (le_at width s p) ≡ true
+      → judge_views (after_of rule c (le_at width s p)) s (p + width) (map (view_of v) (drop (i + 1) fs)) ≡ all
+  unfolding judge_views
+  good l f = rw (here, le-ltb (length s) (p + width) l, f) at left
+
+-- most rules tell nothing
+kept : (r : Rule) (c : Seen) (n : ℕ) → (r ≡ Blas → ⊥) → (r ≡ OrNone → ⊥) → after_of r c n ≡ untagged c
+kept Any c n a b = refl
+kept (Always x) c n a b = refl
+kept (Triangles x) c n a b = refl
+kept (WithBuffer x) c n a b = refl
+kept Blas c n a b = absurd (a refl)
+kept OrNone c n a b = absurd (b refl)
 
 pub returns-then-s-here : goal.returns-then-s-here
 returns-then-s-here c =
     let a = c.args in
-    cut a.fields.now (seen a.before.now a.each c.loop-k.boxes c.loop-k.none) a.s.now c.loop-k.p c.loop-k.k a.end _ c.loop-k-test.true c.loop-k.invariant.1 (omega arith)
+    let l = c.loop-field in
+    short a.version a.fields.now (seen a.before.now.records.now a.before.now.each l.boxes l.none) a.s.now l.p l.field-index _ c.loop-field-test.true l.invariant.left
+    (rw (← c.bytes-bytes.ensures) (omega arith))
 
-pub loop-k-preserved-then-rule-eq0 : goal.loop-k-preserved-then-rule-eq0
-loop-k-preserved-then-rule-eq0 c =
-    let a = c.args in
-    next a.fields.now (seen a.before.now a.each c.loop-k.boxes c.loop-k.none) a.s.now c.loop-k.p c.loop-k.k a.end _ c.loop-k-test.true c.loop-k.invariant.1
-    (omega arith)
-    _
-    _
-    (rw c.if-rule-eq0.true)
-    (rw c.if-rule-eq0.true)
-
--- a Blas
-pub returns-then-count-i : goal.returns-then-count-i
-returns-then-count-i c =
-    let a = c.args in
-    wrong a.fields.now (seen a.before.now a.each c.loop-k.boxes c.loop-k.none) a.s.now c.loop-k.p c.loop-k.k a.end _ c.loop-k-test.true c.loop-k.invariant.1
-    (omega arith)
-    (rw (c.if-rule-eq-A_BLAS.true, ← c.number_at-v.ensures, or-false, ← c.requires.0.1) (le-ltb _ _ c.if-count-i.true))
-
-pub loop-k-preserved-then-rule-eq-A_BLAS : goal.loop-k-preserved-then-rule-eq-A_BLAS
-loop-k-preserved-then-rule-eq-A_BLAS c =
-    let a = c.args in
-    let v = c.number_at-v.ensures in
-    next a.fields.now (seen a.before.now a.each c.loop-k.boxes c.loop-k.none) a.s.now c.loop-k.p c.loop-k.k a.end _ c.loop-k-test.true c.loop-k.invariant.1
-    (omega arith)
-    _
-    _
-    (rw (c.if-rule-eq-A_BLAS.true, ← v, or-false, ← c.requires.0.1) (lt-ltb _ _ c.if-count-i.false))
-    (rw (c.if-rule-eq-A_BLAS.true, ← v))
-
--- an id that may be none
-pub loop-k-preserved-then-rule-eq-OR_NONE : goal.loop-k-preserved-then-rule-eq-OR_NONE
-loop-k-preserved-then-rule-eq-OR_NONE c =
-    let a = c.args in
-    next a.fields.now (seen a.before.now a.each c.loop-k.boxes c.loop-k.none) a.s.now c.loop-k.p c.loop-k.k a.end _ c.loop-k-test.true c.loop-k.invariant.1
-    (omega arith)
-    _
-    _
-    (rw c.if-rule-eq-OR_NONE.true)
-    (rw (c.if-rule-eq-OR_NONE.true, ← c.number_at-v.ensures))
-
--- any other rule
 pub returns-then-not-fits : goal.returns-then-not-fits
 returns-then-not-fits c =
     let a = c.args in
-    wrong a.fields.now (seen a.before.now a.each c.loop-k.boxes c.loop-k.none) a.s.now c.loop-k.p c.loop-k.k a.end _ c.loop-k-test.true c.loop-k.invariant.1
-    (omega arith)
-    (rw (
-      ne_eqb (get_or a.fields.now c.loop-k.k 0 % 16) 12 c.if-rule-eq-A_BLAS.false,
-      ← c.number_at-v.ensures,
-      ← c.fits.ensures a.before.now a.each,
-    )
-    c.if-not-fits.true)
+    let l = c.loop-field in
+    bad a.version a.fields.now (seen a.before.now.records.now a.before.now.each l.boxes l.none) a.s.now l.p l.field-index _ c.loop-field-test.true l.invariant.left
+    (rw (← c.bytes-bytes.ensures) (omega arith))
+    (rw (← c.number_at-v.ensures, ← c.fits.ensures) c.if-not-fits.true)
 
-pub loop-k-preserved : goal.loop-k-preserved
-loop-k-preserved c =
+pub loop-field-preserved : goal.loop-field-preserved
+loop-field-preserved c =
     let a = c.args in
-    let n12 = ne_eqb (get_or a.fields.now c.loop-k.k 0 % 16) 12 c.if-rule-eq-A_BLAS.false in
-    next a.fields.now (seen a.before.now a.each c.loop-k.boxes c.loop-k.none) a.s.now c.loop-k.p c.loop-k.k a.end _ c.loop-k-test.true c.loop-k.invariant.1
-    (omega arith)
-    _
-    _
-    (rw (
-      n12,
-      ← c.number_at-v.ensures,
-      ← c.fits.ensures a.before.now a.each,
-    )
-    c.if-not-fits.false)
-    (rw (n12, ne_eqb (get_or a.fields.now c.loop-k.k 0 % 16) 13 c.if-rule-eq-OR_NONE.false))
+    let l = c.loop-field in
+    let known : after_of (field a.fields.now l.field-index).1 (seen a.before.now.records.now a.before.now.each l.boxes l.none) c.number_at-v.result
+    ≡ seen a.before.now.records.now a.before.now.each c.match-field.boxes c.match-field.none
+    = elim c.match-field.branch [
+      | in-Blas w ↦ rw (w.in-Blas.is, w.boxes-is, w.none-is)
+      | in-OrNone w ↦ rw (w.in-OrNone.is, w.boxes-is, w.none-is, w.from.ensures)
+      | in_default w ↦ rw (w.boxes-is, w.none-is) (kept _ _ _ w.in_default.not-Blas w.in_default.not-OrNone)
+    ] in
+    let next = good a.version a.fields.now (seen a.before.now.records.now a.before.now.each l.boxes l.none) a.s.now l.p l.field-index _ c.loop-field-test.true l.invariant.left
+    (rw (← c.bytes-bytes.ensures) (omega arith))
+    (rw (← c.number_at-v.ensures, ← c.fits.ensures) c.if-not-fits.false) in
+    record {
+      within = omega arith;
+      left = rw (← c.number_at-v.ensures, known, ← c.bytes-bytes.ensures) at next;
+    }
 
 pub returns : goal.returns
 unfolding judge_views
-returns c =
-    let z : c.args.end - c.loop-k.k ≡ 0 = omega arith in
-    rw z at c.loop-k.invariant.1
+returns c = rw (drop_all _ c.args.fields.now c.loop-field-test.false) at c.loop-field.invariant.left

@@ -1,10 +1,11 @@
--- `sheet_fields::judge_record` meets its contract: a whole record that fits is fine, and any other is judged by the table.
-use native.Mathlib.Omega.{arith}
-use mathlib.Core.Path.{sym, ◌∙◌}
-use Rattle.sheet_fits.proofs.Laws.{fits-fine}
+-- `sheet_fields::judge_record` meets its contract: a record is judged by its section's fields.
+use mathlib.Core.Path.{◌∙◌}
+use Rattle.ray_tracing.specs.Reading.{begin}
+use Rattle.sheet_fields.proofs.Laws.{by_views}
 use Rattle.sheet_fields.proofs.judge_record.Goals as goal
 
-pub returns-then-record_fits : goal.returns-then-record_fits
-returns-then-record_fits c =
+pub returns : goal.returns
+returns c =
     let a = c.args in
-    sym (fits-fine a.version a.section _ a.s.now a.at (rw (← c.requires.1.0) (omega arith)) (sym c.record_fits.ensures ∙ c.if-record_fits.true))
+    c.judge_fields.ensures
+    ∙ by_views a.version a.section _ (begin a.before.now.each a.before.now.records.now a.boxes) a.s.now a.at c.requires.1 (c.fields_of.ensures a.version)

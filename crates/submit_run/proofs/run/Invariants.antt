@@ -1,11 +1,13 @@
--- `submit_run::run` meets its contract: the invariant says that what is left to do, done from here, is what the whole was to be. Assumes nothing.
-use Rattle.submit_run.proofs.Running.{Running}
-use lib.ListN.{length}
-use Prim.Native.Nat.{◌-◌}
+-- The invariant: what is left is a start that is not refused, and what is left to do, done from here, is what the whole was to be.
+use Rattle.std.proofs.Common.{◌≡◌, ◌*◌, drop}
+use Rattle.ray_tracing.specs.Submission.{decode_cells, later, run, lent_with, lent_buffers, SameBuffers}
+use Rattle.ray_tracing.proofs.Sound.{Sound}
 use Rattle.submit_run.proofs.run.Given as goal
 
-abbrev pub invariant-loop-at : goal.invariant-loop-at
-invariant-loop-at l = Running l.counter l.initial.blases l.initial.tlases l.initial.dependency_counts l.initial.dependencies l.actions l.lists l.number l.blases l.tlases l.dependency_counts l.dependencies l.at l.index
-
-abbrev pub decreases-loop-at : goal.decreases-loop-at
-decreases-loop-at l = length l.actions - l.at
+abbrev pub invariant-loop-index : goal.invariant-loop-index
+invariant-loop-index l = record {
+  sound : Sound (lent_with l.number (lent_buffers l.buffers));
+  names : SameBuffers l.initial.buffers l.buffers;
+  same : later l.index (run (lent_with l.number (lent_buffers l.buffers)) (decode_cells l.lists (drop (l.index * 4) l.actions)))
+      ≡ run (lent_with l.counter (lent_buffers l.initial.buffers)) (decode_cells l.lists l.actions);
+}

@@ -1,42 +1,46 @@
--- `submit_run::step` meets its contract: each return is the definition's own case. Assumes nothing.
-use Rattle.submit_run.proofs.ByKind.{as_taken, kind_build, kind-use, judged_first, is_id, mark_build}
-use Rattle.submit_checks.proofs.Walks.{nothing, or_stop}
-use Rattle.submit_checks.proofs.Steps.{step-refused}
-use Rattle.submit_checks.proofs.Start.{ready}
-use Rattle.ray_tracing.specs.Submission.{lent_of, action_of}
-use mathlib.Core.Path.{◌∙◌}
-use native.Mathlib.Omega.{arith}
+-- An action by its kind: a Build, a use, or a mark as a Build of its own lists.
+use Rattle.std.proofs.Common.{sym, ap, ◌∙◌}
+use Rattle.std.proofs.lemmas.Result.{err_from_is_err_and}
+use Rattle.ray_tracing.specs.Submission.{lent_with, lent_buffers}
+use Rattle.submit_checks.proofs.Start.{ready, judge_at}
+use Rattle.submit_run.specs.Cells.{id_cause}
+use Rattle.submit_run.proofs.ByKind.{as_taken, kind_build, kind-use, mark_build, is_id, operand-refused}
 use Rattle.submit_run.proofs.step.Goals as goal
 
-pub returns-then-kind-eq-BUILD : goal.returns-then-kind-eq-BUILD
-returns-then-kind-eq-BUILD c = let a = c.args in
+pub returns-then-kind-eq-BUILD-clause-acts : goal.returns-then-kind-eq-BUILD-clause-acts
+returns-then-kind-eq-BUILD-clause-acts c =
+    let s = c.args.lists.now in
+    let x = c.args.cells in
     let k = c.taken_for-kind in
-    rw (as_taken a.lists.now a.cells.kind a.cells.operand a.cells.blas_count a.cells.tlas_count k.ensures, kind_build a.lists.now k.result a.cells.operand a.cells.blas_count a.cells.tlas_count c.if-kind-eq-BUILD.true)
-    c.build_action.ensures
+    rw (as_taken s x.kind x.operand x.blas_count x.tlas_count k.ensures, kind_build s k.result x.operand x.blas_count x.tlas_count c.if-kind-eq-BUILD.true) c.build_action.ensures.acts
 
-pub returns-in-Refused : goal.returns-in-Refused
-returns-in-Refused c = let a = c.args in
+pub returns-in_err-id-clause-acts : goal.returns-in_err-id-clause-acts
+returns-in_err-id-clause-acts c =
+    let q = err_from_is_err_and c.from_residual.result c.from_residual.ensures.1 in
+    let s = c.args.lists.now in
+    let x = c.args.cells in
     let k = c.taken_for-kind in
-    let l = lent_of a.counter a.blases.now a.tlases.now a.dependency_counts.now a.dependencies.now in
-    rw (c.submitted.ensures, as_taken a.lists.now a.cells.kind a.cells.operand a.cells.blas_count a.cells.tlas_count k.ensures)
-    (step-refused l (action_of a.lists.now k.result a.cells.operand a.cells.blas_count a.cells.tlas_count) a.index _
-    (or_stop _ c.judge_operand-checked.ensures c.in-Refused.is
-    ∙ judged_first l (ready l c.ranges.counter.fits c.requires) a.lists.now k.result a.cells.operand a.cells.blas_count a.cells.tlas_count c.if-kind-eq-BUILD.false)
-    c.in-Refused.is)
+    let l = lent_with c.args.counter.now (lent_buffers c.args.buffers.now) in
+    let r = ready c.args.counter.now (lent_buffers c.args.buffers.now) c.requires in
+    rw (q.1, q.2, as_taken s x.kind x.operand x.blas_count x.tlas_count k.ensures)
+    (operand-refused l r.few-blases r.few-tlases s k.result x.operand x.blas_count x.tlas_count c.if-kind-eq-BUILD.false c.judge_operand.ensures.cause c.in_err-id.was)
 
-pub overflow_cast-id : goal.overflow_cast-id
-overflow_cast-id c = let x = c.args.cells in
-    omega (arith, is_id c.taken_for-kind.result x.operand (nothing c.judge_operand-checked.ensures c.in_default.is))
+pub use_action-requires : goal.use_action-requires
+use_action-requires c = sym (judge_at _ _) ∙ c.requires
 
-pub returns-then-kind-eq-USE_TLAS : goal.returns-then-kind-eq-USE_TLAS
-returns-then-kind-eq-USE_TLAS c = let a = c.args in
+pub returns-then-kind-eq-USE_TLAS-clause-acts : goal.returns-then-kind-eq-USE_TLAS-clause-acts
+returns-then-kind-eq-USE_TLAS-clause-acts c =
+    let s = c.args.lists.now in
+    let x = c.args.cells in
     let k = c.taken_for-kind in
-    rw (as_taken a.lists.now a.cells.kind a.cells.operand a.cells.blas_count a.cells.tlas_count k.ensures, kind-use a.lists.now k.result a.cells.operand a.cells.blas_count a.cells.tlas_count c.if-kind-eq-BUILD.false c.if-kind-eq-USE_TLAS.true)
-    c.use_action.ensures
+    rw (as_taken s x.kind x.operand x.blas_count x.tlas_count k.ensures, kind-use s k.result x.operand x.blas_count x.tlas_count c.if-kind-eq-BUILD.false c.if-kind-eq-USE_TLAS.true, ← c.in_ok-id.ensures.id)
+    (c.use_action.ensures _)
 
-pub returns : goal.returns
-returns c = let a = c.args in
+pub returns-clause-acts : goal.returns-clause-acts
+returns-clause-acts c =
+    let s = c.args.lists.now in
+    let x = c.args.cells in
     let k = c.taken_for-kind in
-    let i = is_id k.result a.cells.operand (nothing c.judge_operand-checked.ensures c.in_default.is) in
-    rw (as_taken a.lists.now a.cells.kind a.cells.operand a.cells.blas_count a.cells.tlas_count k.ensures, ← mark_build a.lists.now k.result a.cells.operand a.cells.blas_count a.cells.tlas_count i c.if-kind-eq-BUILD.false c.if-kind-eq-USE_TLAS.false c.pick-blas_mark.ensures c.pick-tlas_mark.ensures)
-    c.build_action-2.ensures
+    let i = is_id k.result x.operand (sym c.judge_operand.ensures.cause ∙ ap id_cause c.in_ok-id.was) in
+    rw (as_taken s x.kind x.operand x.blas_count x.tlas_count k.ensures, ← mark_build s k.result x.operand x.blas_count x.tlas_count i c.if-kind-eq-BUILD.false c.if-kind-eq-USE_TLAS.false c.from.ensures c.from-2.ensures, ← c.in_ok-id.ensures.id)
+    c.build_action-2.ensures.acts

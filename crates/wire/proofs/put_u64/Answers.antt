@@ -1,6 +1,9 @@
--- `wire::put_u64` meets its contract: the halves written end to end are the whole.
-use Rattle.wire.proofs.Laws.{put_halves}
+-- `wire::put_u64` meets its contract: the library's bytes of a number are its 8 lowest.
+use Rattle.std.proofs.Common.{arith}
+use Rattle.wire.specs.Wire.{le_bytes}
+use Rattle.wire.proofs.Laws.{sets_part}
 use Rattle.wire.proofs.put_u64.Goals as goal
 
 pub returns : goal.returns
-returns c = put_halves 4 4 c.args.v c.args.at c.args.s.now c.put_u32.ensures c.put_u32-2.ensures
+unfolding le_bytes
+returns c = grind (arith, sets_part)

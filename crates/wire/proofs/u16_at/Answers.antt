@@ -1,8 +1,11 @@
--- `wire::u16_at` meets its contract: `le_at` at width 2 is the sum of the two bytes, each below 256.
-use Rattle.std.proofs.Common.{rules}
-use Rattle.wire.specs.Wire.{le_at}
+-- `wire::u16_at` meets its contract: what the library reads of 2 bytes is `le_at` at width 2.
+use Rattle.std.proofs.Common.{arith, ◌∙◌}
+use Rattle.std.proofs.lemmas.Result.{MatchResult-at_ok}
+use Rattle.wire.proofs.Laws.{le_part, le_read_2}
 use Rattle.wire.proofs.u16_at.Goals as goal
 
 pub returns : goal.returns
-unfolding le_at
-returns c = search rules
+returns c =
+    let part = c.unwrap.result in
+    let same = (MatchResult-at_ok _ _ part c.unwrap.ensures c.try_into.ensures.1).same in
+    c.from_le_bytes.ensures ∙ le_read_2 part ∙ le_part 2 _ c.args.s.now part c.args.at same (omega arith)

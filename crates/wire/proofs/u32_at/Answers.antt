@@ -1,9 +1,11 @@
--- `wire::u32_at` meets its contract: `le_at` at width 4 is the sum of the four bytes, each below 256.
-use Rattle.std.proofs.Common.{arith}
-use Rattle.wire.specs.Wire.{le_at}
-use Rattle.wire.proofs.Laws.{le_split}
+-- `wire::u32_at` meets its contract: what the library reads of 4 bytes is `le_at` at width 4.
+use Rattle.std.proofs.Common.{arith, ◌∙◌}
+use Rattle.std.proofs.lemmas.Result.{MatchResult-at_ok}
+use Rattle.wire.proofs.Laws.{le_part, le_read_4}
 use Rattle.wire.proofs.u32_at.Goals as goal
 
 pub returns : goal.returns
-unfolding le_at
-returns c = omega (arith, le_split 3 1 c.args.s.now c.args.at, le_split 2 1 c.args.s.now c.args.at)
+returns c =
+    let part = c.unwrap.result in
+    let same = (MatchResult-at_ok _ _ part c.unwrap.ensures c.try_into.ensures.1).same in
+    c.from_le_bytes.ensures ∙ le_read_4 part ∙ le_part 4 _ c.args.s.now part c.args.at same (omega arith)

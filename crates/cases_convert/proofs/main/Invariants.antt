@@ -1,5 +1,0 @@
--- `cases_convert::main` ends: each turn leaves one sheet less to read. Assumes nothing.
-use Rattle.cases_convert.proofs.main.Given as goal
-
-abbrev pub decreases-loop-left : goal.decreases-loop-left
-decreases-loop-left l = l.left
