@@ -1,15 +1,30 @@
 // `validate_acceleration_structure_actions`: the start is judged, then the actions in turn.
 #![tactic(auto)]
 
-ghost use Rattle.std.specs.Prelude.{◌≡◌};
+ghost use Rattle.std.specs.Prelude.{◌≡◌, ℕ};
 ghost use Rattle.ray_tracing.specs.Submission.{piece_of, answer_of, answer_numbers, counter_of, Submits, Validates};
-ghost use Rattle.ray_tracing.specs.Submission.{lent_buffers, SameBuffers};
+ghost use Rattle.ray_tracing.specs.Submission.{judge, lent_with, lent_buffers, SameBuffers};
+ghost use Rattle.submit_checks.specs.Outcome.{checked_cause};
 ghost use Rattle.submit.specs.Told.{numbers_in, Tells};
 
 use causes::submission_figures;
-use ray_tracing::{CommandIndices, SubmissionBuffers, SubmissionRefusal, Validated};
+use ray_tracing::{
+    CommandIndices, SubmissionBuffers, SubmissionRefusal, ValidateAsActionsError, Validated,
+};
 use submit_run::run;
 use submit_start::judge_start;
+
+// The start, judged. A proof has no value for a part lent from behind `&mut`, but has it from behind `&`.
+fn judge_lent(buffers: &SubmissionBuffers<'_>) -> Result<(), ValidateAsActionsError>
+    ensures { (n : ℕ) → checked_cause result ≡ judge (lent_with n (lent_buffers buffers.now)) }
+{
+    judge_start(
+        buffers.blases,
+        buffers.tlases,
+        buffers.dependency_counts,
+        buffers.dependencies,
+    )
+}
 
 // A submission: the start is judged, then the actions in turn.
 #[tactic(auto, unfolding(ray_tracing::specs::Submission::submission))]
@@ -23,7 +38,7 @@ pub fn submit(
         (lent_buffers buffers.new) }
     ensures same { SameBuffers buffers.old buffers.new }
 {
-    judge_start(buffers).map_err(|error| SubmissionRefusal {
+    judge_lent(buffers).map_err(|error| SubmissionRefusal {
         error,
         action: 0,
         counter,

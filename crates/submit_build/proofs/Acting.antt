@@ -1,11 +1,9 @@
--- What a Build does, Tlas by Tlas.
-use Rattle.std.proofs.Common.{◌≡◌, ℕ, ◌+◌, ◌-◌, ◌*◌, ◌<◌, ◌≤◌, List, [], ◌∷◌, length, set, sym, refl, ◌∙◌, arith}
+-- What a Build does: cell by cell, Tlas by Tlas.
+use Rattle.std.proofs.Common.{◌≡◌, ℕ, ◌+◌, ◌-◌, ◌*◌, ◌<◌, ◌≤◌, List, [], ◌∷◌, length, get_or, drop, set, sym, refl, ◌∙◌, add-suc, add-one}
 use mathlib.Core.Option.{Option, none, some}
-use borrow.Rule.Slice.PartMut.{put_mid}
+use lib.ListN.{drop_of_length-le}
+use lib.Seq.{sets, drop-cons}
 use Rattle.std.specs.Prelude.{Result, Ok, Err}
-use Rattle.std.proofs.lemmas.List.Edits.{sets, sets-eq}
-use Rattle.std.proofs.lemmas.Slice.{put_mid-paste}
-use Rattle.std.proofs.lemmas.Grind.{common_steps}
 use Rattle.ray_tracing.specs.declared.ValidateAsActionsError.{ValidateAsActionsError}
 use Rattle.ray_tracing.specs.Causes.{Cause}
 use Rattle.ray_tracing.specs.Submission.{Lent, Package, Outcome, accepted, ◌leaving◌, ◌followed_by◌, unless_cause, first, unnumbered, lent_of, most_dependencies, built_tlas, build_tlas, build_tlases, package_from, past_package, packages_at}
@@ -14,23 +12,28 @@ use Rattle.submit_checks.specs.Known.{Listed, AllListed}
 use Rattle.submit_checks.proofs.Judged.{refusal, nothing}
 use Rattle.submit_build_checks.proofs.Packages.{packages_more, packages_done, lent_first, lent_rest}
 
--- a list's cells, copied to their place
-pub put_part : (xs ys : List ℕ) (a k : ℕ) → k ≡ length ys → a + length ys ≤ length xs → put_mid a k xs ys ≡ sets xs a ys
-put_part xs ys a k e h = rw e (put_mid-paste a (length ys) xs ys ys (length ys) refl refl refl ∙ grind (arith, common_steps, sets-eq))
+-- a list's cells, from the k-th on
+pub copy_step : (d : List ℕ) (at : ℕ) (s : List ℕ) (k : ℕ) → k < length s → sets d (at + k) (drop k s) ≡ sets (set d (at + k) (get_or s k 0)) (at + (k + 1)) (drop (k + 1) s)
+copy_step d at s k h = rw (drop-cons s k 0 h, add-one k, add-suc at k)
+
+pub copy_done : (d : List ℕ) (at : ℕ) (s : List ℕ) (k : ℕ) → length s ≤ k → sets d (at + k) (drop k s) ≡ d
+copy_done d at s k h = rw (drop_of_length-le s h)
+
+pub ruleset copying = (copy_step, copy_done)
 
 -- ---- a Tlas of a Build
 
-module _ (n : ℕ) (p : Package) (l : Lent) {x : Result Unit ValidateAsActionsError} (k : checked_cause x ≡ first (unnumbered l p.tlas) p.dependencies) {b : List ℕ} where
-  pub tlas_refused : {e : ValidateAsActionsError} → x ≡ Err e → b ≡ l.blases → acted_of (Err e) (lent_of l.counter b l.tlases l.dependency_counts l.dependencies) ≡ build_tlases n (p ∷ []) l
+module _ (n : ℕ) (p : Package) (l : Lent) {x : Result Unit ValidateAsActionsError} (k : checked_cause x ≡ first (unnumbered l p.tlas) p.dependencies) where
+  pub tlas_refused : {e : ValidateAsActionsError} → x ≡ Err e → acted_of (Err e) l ≡ build_tlases n (p ∷ []) l
   unfolding build_tlases
-  tlas_refused q s = rw (refusal k q, s)
+  tlas_refused q = rw (refusal k q)
 
   pub tlas_built :
-      {t c d : List ℕ} → x ≡ Ok tt → b ≡ l.blases → t ≡ built_tlas n p.tlas l.tlases → c ≡ set l.dependency_counts p.tlas (length p.dependencies)
+      {t c d : List ℕ} → x ≡ Ok tt → t ≡ built_tlas n p.tlas l.tlases → c ≡ set l.dependency_counts p.tlas (length p.dependencies)
       → d ≡ sets l.dependencies (p.tlas * most_dependencies) p.dependencies
-      → acted_of (Ok tt) (lent_of l.counter b t c d) ≡ build_tlases n (p ∷ []) l
+      → acted_of (Ok tt) (lent_of l.counter l.blases t c d) ≡ build_tlases n (p ∷ []) l
   unfolding build_tlases
-  tlas_built q s e f g = rw (nothing k q, s, e, f, g)
+  tlas_built q e f g = rw (nothing k q, e, f, g)
 
 -- a Tlas, then those after it
 tlases_turn : (n : ℕ) (p : Package) (ps : List Package) (l : Lent) → build_tlases n (p ∷ ps) l ≡ (build_tlases n (p ∷ []) l followed_by λ r. build_tlases n ps r)
@@ -74,4 +77,4 @@ module _ (nb nt : ℕ) (lists : List ℕ) (at i n : ℕ) (h : i < n) (a : AllLis
 pub ruleset walking = (tlases_done, listed_first, listed_rest, lent_first, lent_rest)
 
 -- what closes the goals of one Tlas built
-pub ruleset building = (put_part, tlas_refused, tlas_built)
+pub ruleset building = (tlas_refused, tlas_built)

@@ -2,15 +2,12 @@
 use Rattle.std.proofs.Common.{◌≡◌, ℕ, ◌+◌, ◌≤◌, Bool, true, false, List, length, take, drop, refl, ◌∙◌, arith}
 use mathlib.Core.Option.{none}
 use native.Mathlib.Decide.{dec_lt}
-use Rattle.std.specs.Prelude.{Result, Ok}
+use Rattle.std.specs.Prelude.{Result}
 use Rattle.ray_tracing.specs.declared.ValidateAsActionsError.{ValidateAsActionsError}
 use Rattle.ray_tracing.specs.Submission.{Lent, Package, Action, build, malformed, blas_count, tlas_count, packages_at, packages_lent, build_at, before, built_blases, build_tlases, step, act, lent_of}
-use Rattle.submit_checks.specs.Outcome.{stepped, checked_cause, acted_of}
+use Rattle.submit_checks.specs.Outcome.{stepped, acted_of}
 use Rattle.submit_checks.specs.Known.{Inside, AllListed}
-use Rattle.submit_checks.proofs.Judged.{nothing}
 use Rattle.submit_checks.proofs.Steps.{step_acted}
-use Rattle.submit_checks.specs.declared.BuildLists.{BuildLists}
-use Rattle.submit_checks.specs.Outcome.{build_of}
 use Rattle.submit_build_checks.proofs.Judging.{known-build, build-short, build_cut, build_whole, before-malformed}
 
 pub record WholeBuild (lists : List ℕ) (at bs ts nb nt : ℕ) : Type 0 where
@@ -27,7 +24,7 @@ module _ (l : Lent) (lists : List ℕ) (at bs ts : ℕ) (e : before l (build_at 
       let z : ◌≡◌ {A = ℕ} 0 1 = cc in
       omega arith
 
-  whole_build : WholeBuild lists at bs ts (blas_count l) (tlas_count l)
+  pub whole_build : WholeBuild lists at bs ts (blas_count l) (tlas_count l)
   whole_build =
       elim (dec_lt (length lists) (at + bs)) [
         | yes h ↦ absurd (not_malformed (build-short lists at bs ts h))
@@ -40,12 +37,6 @@ module _ (l : Lent) (lists : List ℕ) (at bs ts : ℕ) (e : before l (build_at 
           let w = build_whole lists at bs ts q h in
           let k = known-build l (take bs (drop at lists)) (packages_at lists (at + bs) ts) (rw w at e) in
           record { inside = h; lent = q; is = w; ids = k.0; listed = k.1 }
-
--- where nothing was refused
-pub judged-build :
-    (l : Lent) (s : BuildLists) {x : Result Unit ValidateAsActionsError} → checked_cause x ≡ before l (build_of s) → x ≡ Ok tt
-    → WholeBuild s.cells.now s.start s.blas_count s.tlas_count (blas_count l) (tlas_count l)
-judged-build l s p q = whole_build l s.cells.now s.start s.blas_count s.tlas_count (nothing p q)
 
 -- what it does: its Blases, then its Tlases
 pub build-acts :

@@ -1,18 +1,21 @@
 // A Build as an action: judged, then all its Blases, then its Tlases in turn.
 #![tactic(auto)]
 
-ghost use Rattle.std.specs.Prelude.{◌≡◌, ◌+◌, ◌^◌, ◌<◌, true, [], ◌∷◌};
+ghost use Rattle.std.specs.Prelude.{◌≡◌, ◌+◌, ◌^◌, ◌<◌, ◌≤◌, true, [], ◌∷◌, length};
 ghost use Rattle.std.proofs.Math.Option.{none};
-ghost use Rattle.ray_tracing.specs.Submission.{first, judge, packages_at, packages_lent, unnumbered, lent_with};
-ghost use Rattle.ray_tracing.specs.Submission.{built_blas, built_blases, built_tlas, lent_buffers, SameBuffers};
-ghost use Rattle.submit_checks.specs.Outcome.{package_with, build_of, checked_cause, BuildsTlases, Acts};
-ghost use Rattle.submit_checks.specs.Known.{blases_in, tlases_in, Inside, HasRoom, SameSizes, Listed, AllListed};
+ghost use Rattle.std.proofs.lemmas.List.Edits.{sets};
+ghost use Rattle.ray_tracing.specs.Submission.{first, judge, packages_at, packages_lent, unnumbered, before};
+ghost use Rattle.ray_tracing.specs.Submission.{built_blas, built_blases, built_tlas};
+ghost use Rattle.ray_tracing.specs.Submission.{lent_of, lent_with, buffers_of, lent_buffers, SameBuffers};
+ghost use Rattle.submit_checks.specs.Outcome.{blases_of, package_with, build_of, stepped, checked_cause};
+ghost use Rattle.submit_checks.specs.Outcome.{BuildsTlases, Acts};
+ghost use Rattle.submit_checks.specs.Known.{blases_in, tlases_in, Inside, ListRoom, Listed, AllListed};
 
 use ray_tracing::{
     BLAS_SIZE, BlasId, SubmissionBuffers, TLAS_ROOM, TLAS_SIZE, TlasId, ValidateAsActionsError,
 };
 use submit_build_checks::judge_build_action;
-use submit_checks::{BuildLists, blas_of};
+use submit_checks::{Acted, BuildLists, blas_of};
 use wire::{put_u8, put_u64};
 
 // A Blas that a Build built.
@@ -45,18 +48,26 @@ fn mark_tlas(tlases: &mut [u8], id: TlasId, number: u64)
     put_u64(tlases, at + 14, number);
 }
 
+// A list's cells from a place on, as `wire::put_bytes` has bytes: one over a type parameter would be no plainer. No `copy_from_slice`, which
+// is a call of memmove for each list.
+#[tactic(auto, using(crate::proofs::Acting::copying))]
+fn put_list(cells: &mut [u16], at: usize, list: &[u16])
+    requires { at + length list.now ≤ length cells.old }
+    ensures { cells.new ≡ sets cells.old at list.now }
+{
+    for k in 0..list.len() {
+        cells[at + k] = list[k];
+    }
+}
+
 // 42 of a Build.
-fn judge_numbers(
-    buffers: &SubmissionBuffers<'_>,
-    tlas: TlasId,
-    ids: &[u16],
-) -> Result<(), ValidateAsActionsError>
-    requires { Inside ids.now (blases_in buffers.now.blases.now) }
-    ensures { checked_cause result ≡ first (unnumbered (lent_with 0 (lent_buffers buffers.now)) tlas.0) ids.now }
+fn judge_numbers(blases: &[u8], tlas: TlasId, ids: &[u16]) -> Result<(), ValidateAsActionsError>
+    requires { Inside ids.now (blases_in blases.now) }
+    ensures { checked_cause result ≡ first (unnumbered (blases_of blases.now) tlas.0) ids.now }
 {
     for &id in ids {
         let id = BlasId(id);
-        if blas_of(buffers.blases, id).built_index == 0 {
+        if blas_of(blases, id).built_index == 0 {
             return Err(ValidateAsActionsError::UsedUnbuiltBlas(id, tlas));
         }
     }
@@ -67,23 +78,23 @@ fn judge_numbers(
 #[tactic(auto, using(crate::proofs::Acting::building), unfolding(ray_tracing::specs::Submission::build_tlases))]
 fn build_tlas(
     number: u64,
-    buffers: &mut SubmissionBuffers<'_>,
+    blases: &[u8],
+    tlases: &mut [u8],
+    dependency_counts: &mut [u16],
+    dependencies: &mut [u16],
     tlas: TlasId,
     ids: &[u16],
 ) -> Result<(), ValidateAsActionsError>
-    requires listed { Listed (blases_in buffers.old.blases.now) (tlases_in buffers.old.tlases.now) (package_with tlas.0 ids.now) }
-    requires list_room { HasRoom (lent_buffers buffers.old) }
-    ensures builds { BuildsTlases number (lent_buffers buffers.old) (package_with tlas.0 ids.now ∷ []) result
-        (lent_buffers buffers.new) }
-    ensures sizes { SameSizes (lent_buffers buffers.old) (lent_buffers buffers.new) }
-    ensures same { SameBuffers buffers.old buffers.new }
+    requires listed { Listed (blases_in blases.now) (tlases_in tlases.old) (package_with tlas.0 ids.now) }
+    requires list_room { ListRoom (tlases_in tlases.old) dependency_counts.old dependencies.old }
+    ensures { BuildsTlases number (buffers_of blases.now tlases.old dependency_counts.old dependencies.old)
+        (package_with tlas.0 ids.now ∷ []) result (buffers_of blases.now tlases.new dependency_counts.new dependencies.new) }
 {
-    judge_numbers(buffers, tlas, ids)?;
-    mark_tlas(buffers.tlases, tlas, number);
+    judge_numbers(blases, tlas, ids)?;
+    mark_tlas(tlases, tlas, number);
     let t = tlas.0 as usize;
-    buffers.dependency_counts[t] = ids.len() as u16;
-    let start = t * TLAS_ROOM;
-    buffers.dependencies[start..start + ids.len()].copy_from_slice(ids);
+    dependency_counts[t] = ids.len() as u16;
+    put_list(dependencies, t * TLAS_ROOM, ids);
     Ok(())
 }
 
@@ -91,45 +102,55 @@ fn build_tlas(
 #[tactic(auto, using(crate::proofs::Acting::walking))]
 fn build_tlases(
     number: u64,
-    buffers: &mut SubmissionBuffers<'_>,
+    blases: &[u8],
+    tlases: &mut [u8],
+    dependency_counts: &mut [u16],
+    dependencies: &mut [u16],
     lists: &[u16],
     start: usize,
     tlas_count: usize,
 ) -> Result<(), ValidateAsActionsError>
     requires lent { packages_lent lists.now start tlas_count ≡ true }
-    requires all_listed { AllListed (blases_in buffers.old.blases.now) (tlases_in buffers.old.tlases.now)
-        (packages_at lists.now start tlas_count) }
-    requires list_room { HasRoom (lent_buffers buffers.old) }
-    ensures builds { BuildsTlases number (lent_buffers buffers.old) (packages_at lists.now start tlas_count) result
-        (lent_buffers buffers.new) }
-    ensures same { SameBuffers buffers.old buffers.new }
+    requires all_listed { AllListed (blases_in blases.now) (tlases_in tlases.old) (packages_at lists.now start tlas_count) }
+    requires list_room { ListRoom (tlases_in tlases.old) dependency_counts.old dependencies.old }
+    ensures { BuildsTlases number (buffers_of blases.now tlases.old dependency_counts.old dependencies.old)
+        (packages_at lists.now start tlas_count) result
+        (buffers_of blases.now tlases.new dependency_counts.new dependencies.new) }
 {
     let mut at = start;
     for _ in 0..tlas_count {
         let tlas = TlasId(lists[at]);
         let from = at + 2;
         let end = from + lists[at + 1] as usize;
-        build_tlas(number, &mut *buffers, tlas, &lists[from..end])?;
+        build_tlas(
+            number,
+            blases,
+            tlases,
+            dependency_counts,
+            dependencies,
+            tlas,
+            &lists[from..end],
+        )?;
         at = end;
     }
     Ok(())
 }
 
-// A Build: refused before it acts it leaves the counter, and else steps it, also where one of its Tlases is refused. All its Blases get
-// the number and turn Idle, then its Tlases in turn.
-pub fn build_action(
-    counter: &mut u64,
-    buffers: &mut SubmissionBuffers<'_>,
+// A Build that nothing was judged against: all its Blases get the number and turn Idle, then its Tlases in turn.
+fn build(
+    number: u64,
+    blases: &mut [u8],
+    tlases: &mut [u8],
+    dependency_counts: &mut [u16],
+    dependencies: &mut [u16],
     lists: &BuildLists<'_>,
 ) -> Result<(), ValidateAsActionsError>
-    requires fits { lists.now.start + lists.now.blas_count < 2 ^ 64 }
-    requires judged { judge (lent_with counter.old (lent_buffers buffers.old)) ≡ none }
-    ensures acts { Acts counter.old (lent_buffers buffers.old) (build_of lists.now) result counter.new (lent_buffers buffers.new) }
-    ensures same { SameBuffers buffers.old buffers.new }
+    requires unrefused { before (lent_of number blases.old tlases.old dependency_counts.old dependencies.old) (build_of lists.now)
+        ≡ none }
+    requires list_room { ListRoom (tlases_in tlases.old) dependency_counts.old dependencies.old }
+    ensures { Acts number (buffers_of blases.old tlases.old dependency_counts.old dependencies.old) (build_of lists.now) result
+        (stepped number) (buffers_of blases.new tlases.new dependency_counts.new dependencies.new) }
 {
-    let number = *counter;
-    judge_build_action(number, buffers, lists)?;
-    *counter = number.wrapping_add(1);
     let BuildLists {
         cells,
         start,
@@ -137,6 +158,59 @@ pub fn build_action(
         tlas_count,
     } = *lists;
     let mid = start + blas_count;
-    mark_blases(buffers.blases, &cells[start..mid], number);
-    build_tlases(number, buffers, cells, mid, tlas_count)
+    mark_blases(blases, &cells[start..mid], number);
+    build_tlases(
+        number,
+        &blases[..],
+        tlases,
+        dependency_counts,
+        dependencies,
+        cells,
+        mid,
+        tlas_count,
+    )
+}
+
+// What is judged before a Build acts. A proof has no value for a part lent from behind `&mut`, but has it from behind `&`.
+#[tactic(auto, using(submit_checks::proofs::Steps::before_tables))]
+fn judge_build(
+    counter: u64,
+    buffers: &SubmissionBuffers<'_>,
+    lists: &BuildLists<'_>,
+) -> Result<(), ValidateAsActionsError>
+    requires { lists.now.start + lists.now.blas_count < 2 ^ 64 }
+    ensures { checked_cause result ≡ before (lent_with counter (lent_buffers buffers.now)) (build_of lists.now) }
+{
+    judge_build_action(counter, buffers.blases, buffers.tlases, lists)
+}
+
+// A Build: refused before it acts it leaves the counter, and else steps it, also where one of its Tlases is refused.
+pub fn build_action(
+    counter: u64,
+    buffers: &mut SubmissionBuffers<'_>,
+    lists: &BuildLists<'_>,
+) -> Acted
+    requires fits { lists.now.start + lists.now.blas_count < 2 ^ 64 }
+    requires judged { judge (lent_with counter (lent_buffers buffers.old)) ≡ none }
+    ensures acts { Acts counter (lent_buffers buffers.old) (build_of lists.now) result.came_to result.counter
+        (lent_buffers buffers.new) }
+    ensures same { SameBuffers buffers.old buffers.new }
+{
+    if let Err(error) = judge_build(counter, buffers, lists) {
+        return Acted {
+            came_to: Err(error),
+            counter,
+        };
+    }
+    Acted {
+        came_to: build(
+            counter,
+            buffers.blases,
+            buffers.tlases,
+            buffers.dependency_counts,
+            buffers.dependencies,
+            lists,
+        ),
+        counter: counter.wrapping_add(1),
+    }
 }

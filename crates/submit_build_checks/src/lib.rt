@@ -2,13 +2,12 @@
 #![tactic(auto)]
 
 ghost use Rattle.std.specs.Prelude.{◌≡◌, true, [], ◌+◌, ◌^◌, ◌≤◌, ◌<◌, length};
-ghost use Rattle.ray_tracing.specs.Submission.{first, ◌or_else◌, mention_blas, mention_package, too_many, compacted, before};
-ghost use Rattle.ray_tracing.specs.Submission.{lent_of, lent_with, lent_buffers};
+ghost use Rattle.ray_tracing.specs.Submission.{first, ◌or_else◌, mention_blas, mention_package, too_many, compacted, before, lent_of};
 ghost use Rattle.ray_tracing.specs.Submission.{package_from, past_package, packages_at, packages_lent, build};
 ghost use Rattle.submit_checks.specs.Outcome.{tables_only, blases_of, checked_cause, build_of};
 ghost use Rattle.submit_checks.specs.Known.{blases_in, Inside};
 
-use ray_tracing::{BlasId, SubmissionBuffers, TLAS_ROOM, TlasId, ValidateAsActionsError};
+use ray_tracing::{BlasId, TLAS_ROOM, TlasId, ValidateAsActionsError};
 use submit_checks::{BuildLists, blas_of, judge_ids, judge_tlas};
 
 // The most that a Build lists.
@@ -162,11 +161,12 @@ fn judge_whole_build(
 #[tactic(auto, using(crate::proofs::Judging::lending))]
 pub fn judge_build_action(
     counter: u64,
-    buffers: &SubmissionBuffers<'_>,
+    blases: &[u8],
+    tlases: &[u8],
     lists: &BuildLists<'_>,
 ) -> Result<(), ValidateAsActionsError>
     requires { lists.now.start + lists.now.blas_count < 2 ^ 64 }
-    ensures { checked_cause result ≡ before (lent_with counter (lent_buffers buffers.now)) (build_of lists.now) }
+    ensures { checked_cause result ≡ before (lent_of counter blases.now tlases.now [] []) (build_of lists.now) }
 {
     let cells = lists.cells;
     let mid = lists.start + lists.blas_count;
@@ -175,8 +175,8 @@ pub fn judge_build_action(
     }
     judge_whole_build(
         counter,
-        buffers.blases,
-        buffers.tlases,
+        blases,
+        tlases,
         &cells[lists.start..mid],
         cells,
         mid,

@@ -1,5 +1,5 @@
 -- What judging has shown where an action acts. Assumes nothing.
-use Rattle.std.specs.Prelude.{ℕ, ◌≡◌, ◌*◌, ◌/◌, ◌≤◌, ◌<◌, List, [], ◌∷◌, length, get_or}
+use Rattle.std.specs.Prelude.{ℕ, ◌*◌, ◌/◌, ◌≤◌, ◌<◌, List, [], ◌∷◌, length, get_or}
 use Rattle.ray_tracing.specs.Submission.{Package, Buffers, blas_size, tlas_size, most_dependencies}
 
 -- the records of a table
@@ -20,14 +20,6 @@ ListRoom n c d = (n ≤ length c) × (n * most_dependencies ≤ length d)
 -- all of a submission's Tlases have
 abbrev pub HasRoom : Buffers → Type 0
 HasRoom x = ListRoom (tlases_in x.tlases) x.dependency_counts x.dependencies
-
--- as much is lent as before
-abbrev pub SameSizes : Buffers → Buffers → Type 0
-SameSizes x y =
-    (length y.blases ≡ length x.blases)
-    × (length y.tlases ≡ length x.tlases)
-    × (length y.dependency_counts ≡ length x.dependency_counts)
-    × (length y.dependencies ≡ length x.dependencies)
 
 -- a Tlas of a Build and what it lists, in tables of nb Blases and nt Tlases
 pub record Listed (nb nt : ℕ) (p : Package) : Type 0 where

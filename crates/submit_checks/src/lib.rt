@@ -18,6 +18,13 @@ pub struct BuildLists<'a> {
     pub tlas_count: usize,
 }
 
+// What one action came to, and the counter that it leaves.
+#[derive(Clone, Copy)]
+pub struct Acted {
+    pub came_to: Result<(), ValidateAsActionsError>,
+    pub counter: u64,
+}
+
 // A mention of an id, judged.
 pub fn judge_blas(blases: &[u8], id: BlasId) -> Result<(), ValidateAsActionsError>
     ensures { checked_cause result ≡ mention_blas (blases_of blases.now) id.0 }

@@ -2,17 +2,18 @@
 // refused.
 #![tactic(auto)]
 
-ghost use Rattle.std.specs.Prelude.{◌≡◌, ◌+◌, ◌≤◌, length, IfOk};
+ghost use Rattle.std.specs.Prelude.{◌≡◌, ℕ, cond, ◌+◌, ◌≤◌, length, eqb, IfOk};
 ghost use Rattle.std.proofs.Math.Option.{none};
+ghost use Rattle.ray_tracing.specs.Causes.{bare};
 ghost use Rattle.ray_tracing.specs.Submission as Submission;
-ghost use Rattle.ray_tracing.specs.Submission.{judge, action, taken_for, decode, outcome_of, lent_with, piece_of};
-ghost use Rattle.ray_tracing.specs.Submission.{lent_buffers, SameBuffers};
+ghost use Rattle.ray_tracing.specs.Submission.{judge, action, use_tlas, taken_for, decode, accepted, refused, answer_of, counter_of};
+ghost use Rattle.ray_tracing.specs.Submission.{outcome_of, lent_with, piece_of, lent_buffers, SameBuffers};
 ghost use Rattle.submit_checks.specs.Outcome.{Acts};
 ghost use Rattle.submit_run.specs.Cells.{cells_at, operand_cause, id_cause};
 
 use ray_tracing::{SubmissionBuffers, SubmissionRefusal, TlasId, ValidateAsActionsError};
 use submit_build::build_action;
-use submit_checks::BuildLists;
+use submit_checks::{Acted, BuildLists};
 use submit_use::use_action;
 
 // Kinds of action: numbers, as they stand in the lent cells.
@@ -68,17 +69,27 @@ fn judge_operand(kind: u32, operand: u32) -> Result<u16, ValidateAsActionsError>
     u16::try_from(operand).map_err(|_| ValidateAsActionsError::InvalidResource)
 }
 
-// One action. A mark of one id is a Build whose Tlases list nothing: its lists stand in an array of its own.
-fn step(
-    counter: &mut u64,
-    buffers: &mut SubmissionBuffers<'_>,
-    lists: &[u16],
-    cells: Cells,
-) -> Result<(), ValidateAsActionsError>
-    requires { judge (lent_with counter.old (lent_buffers buffers.old)) ≡ none }
-    ensures acts { Acts counter.old (lent_buffers buffers.old)
+// A use. A proof has no value for a part lent from behind `&mut`, but has it from behind `&`.
+fn use_lent(buffers: &SubmissionBuffers<'_>, tlas: TlasId) -> Result<(), ValidateAsActionsError>
+    requires { judge (lent_with 0 (lent_buffers buffers.now)) ≡ none }
+    ensures { (n : ℕ) → Acts n (lent_buffers buffers.now) (use_tlas tlas.0) result n (lent_buffers buffers.now) }
+{
+    use_action(
+        buffers.blases,
+        buffers.tlases,
+        buffers.dependency_counts,
+        buffers.dependencies,
+        tlas,
+    )
+}
+
+// One action. A mark of one id is a Build whose Tlases list nothing: its lists stand in an array of its own. What a Build
+// answers is taken apart, so that it is not in memory, where it is answered, for a use too.
+fn step(counter: u64, buffers: &mut SubmissionBuffers<'_>, lists: &[u16], cells: Cells) -> Acted
+    requires { judge (lent_with counter (lent_buffers buffers.old)) ≡ none }
+    ensures acts { Acts counter (lent_buffers buffers.old)
         (action lists.now cells.kind cells.operand cells.blas_count cells.tlas_count)
-        result counter.new (lent_buffers buffers.new) }
+        result.came_to result.counter (lent_buffers buffers.new) }
     ensures same { SameBuffers buffers.old buffers.new }
 {
     let kind = taken_for(cells.kind);
@@ -89,11 +100,26 @@ fn step(
             blas_count: cells.blas_count as usize,
             tlas_count: cells.tlas_count as usize,
         };
-        return build_action(counter, buffers, &build);
+        let built = build_action(counter, buffers, &build);
+        return Acted {
+            came_to: built.came_to,
+            counter: built.counter,
+        };
     }
-    let id = judge_operand(kind, cells.operand)?;
+    let id = match judge_operand(kind, cells.operand) {
+        Ok(id) => id,
+        Err(error) => {
+            return Acted {
+                came_to: Err(error),
+                counter,
+            };
+        }
+    };
     if kind == USE_TLAS {
-        return use_action(buffers, TlasId(id));
+        return Acted {
+            came_to: use_lent(buffers, TlasId(id)),
+            counter,
+        };
     }
     let own = [id, 0];
     let mark = BuildLists {
@@ -102,10 +128,28 @@ fn step(
         blas_count: usize::from(kind == MARK_BLAS),
         tlas_count: usize::from(kind == MARK_TLAS),
     };
-    build_action(counter, buffers, &mark)
+    let marked = build_action(counter, buffers, &mark);
+    Acted {
+        came_to: marked.came_to,
+        counter: marked.counter,
+    }
 }
 
-// The actions in turn, to the first that is refused; a part of one at the end is none.
+// Where no whole action is left: a part of one is none.
+fn ends(left: usize, index: usize, counter: u64) -> Result<u64, SubmissionRefusal>
+    ensures { (answer_of result ≡ cond (eqb left 0) accepted (refused index (bare 5))) × (counter_of result ≡ counter) }
+{
+    if left != 0 {
+        return Err(SubmissionRefusal {
+            error: ValidateAsActionsError::InvalidValue,
+            action: index,
+            counter,
+        });
+    }
+    Ok(counter)
+}
+
+// The actions in turn, to the first that is refused.
 pub fn run(
     counter: u64,
     buffers: &mut SubmissionBuffers<'_>,
@@ -121,13 +165,10 @@ pub fn run(
     let mut number = counter;
     let count = actions.len() / 4;
     for index in 0..count {
+        let acted = step(number, &mut *buffers, lists, cells_at(actions, index * 4));
+        number = acted.counter;
         // Tried as `map_err(..)?`: the exit of the `?` stayed open, since what the closure returns does not compute there.
-        if let Err(error) = step(
-            &mut number,
-            &mut *buffers,
-            lists,
-            cells_at(actions, index * 4),
-        ) {
+        if let Err(error) = acted.came_to {
             return Err(SubmissionRefusal {
                 error,
                 action: index,
@@ -135,12 +176,5 @@ pub fn run(
             });
         }
     }
-    if actions.len() % 4 != 0 {
-        return Err(SubmissionRefusal {
-            error: ValidateAsActionsError::InvalidValue,
-            action: count,
-            counter: number,
-        });
-    }
-    Ok(number)
+    ends(actions.len() % 4, count, number)
 }

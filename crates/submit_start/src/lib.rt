@@ -5,43 +5,49 @@ ghost use Rattle.std.specs.Prelude.{◌≡◌, [], ℕ, ◌+◌, ◌-◌, ◌*�
 ghost use Rattle.ray_tracing.specs.Layout.{layout, size};
 ghost use Rattle.ray_tracing.specs.Reading.{judge_lent};
 ghost use Rattle.ray_tracing.specs.Causes.{bare, sheet_number, submission_cause};
-ghost use Rattle.ray_tracing.specs.Submission.{table_cause, judge_room, judge_list, judge_lists, judge, most_dependencies};
-ghost use Rattle.ray_tracing.specs.Submission.{lent_with, lent_buffers};
+ghost use Rattle.ray_tracing.specs.Submission.{table_cause, judge_room, judge_list, judge_lists, judge, most_dependencies, lent_of};
 ghost use Rattle.submit_checks.specs.Outcome.{checked_cause};
 ghost use Rattle.submit_checks.specs.Known.{tlases_in, ListRoom};
 
-use ray_tracing::{
-    SheetError, SubmissionBuffers, TLAS_ROOM, TLAS_SIZE, TlasId, ValidateAsActionsError, Version,
-};
+use ray_tracing::{SheetError, TLAS_ROOM, TLAS_SIZE, TlasId, ValidateAsActionsError, Version};
 use sheet_sections::judge_lent;
 use submit_checks::judge_ids;
 
 // The starting list of one Tlas: 4 goes by the count itself.
 #[tactic(auto, unfolding(ray_tracing::specs::Submission::list_in))]
-fn judge_list(buffers: &SubmissionBuffers<'_>, tlas: TlasId) -> Result<(), ValidateAsActionsError>
-    requires counted { tlas.0 < length buffers.now.dependency_counts.now }
-    requires room { tlas.0 * most_dependencies + most_dependencies ≤ length buffers.now.dependencies.now }
-    ensures { checked_cause result ≡ judge_list (lent_with 0 (lent_buffers buffers.now)) tlas.0 }
+fn judge_list(
+    blases: &[u8],
+    dependency_counts: &[u16],
+    dependencies: &[u16],
+    tlas: TlasId,
+) -> Result<(), ValidateAsActionsError>
+    requires { (tlas.0 < length dependency_counts.now)
+        × (tlas.0 * most_dependencies + most_dependencies ≤ length dependencies.now) }
+    ensures { checked_cause result
+        ≡ judge_list (lent_of 0 blases.now [] dependency_counts.now dependencies.now) tlas.0 }
 {
     let t = tlas.0 as usize;
-    let count = buffers.dependency_counts[t] as usize;
+    let count = dependency_counts[t] as usize;
     if TLAS_ROOM < count {
         return Err(ValidateAsActionsError::TooMany);
     }
     let start = t * TLAS_ROOM;
-    judge_ids(buffers.blases, &buffers.dependencies[start..start + count])
+    judge_ids(blases, &dependencies[start..start + count])
 }
 
 #[tactic(auto, using(crate::proofs::Lists::lists_more, crate::proofs::Lists::lists_done))]
 fn judge_lists(
-    buffers: &SubmissionBuffers<'_>,
+    blases: &[u8],
     tlas_count: u16,
+    dependency_counts: &[u16],
+    dependencies: &[u16],
 ) -> Result<(), ValidateAsActionsError>
-    requires { ListRoom tlas_count buffers.now.dependency_counts.now buffers.now.dependencies.now }
-    ensures { checked_cause result ≡ judge_lists (lent_with 0 (lent_buffers buffers.now)) 0 tlas_count }
+    requires { ListRoom tlas_count dependency_counts.now dependencies.now }
+    ensures { checked_cause result
+        ≡ judge_lists (lent_of 0 blases.now [] dependency_counts.now dependencies.now) 0 tlas_count }
 {
     for t in 0..tlas_count {
-        judge_list(buffers, TlasId(t))?;
+        judge_list(blases, dependency_counts, dependencies, TlasId(t))?;
     }
     Ok(())
 }
@@ -71,26 +77,36 @@ fn judge_table(table: &[u8], section: usize) -> Result<(), ValidateAsActionsErro
 }
 
 // 39 unless each Tlas's list has room for 512.
-fn judge_room(buffers: &SubmissionBuffers<'_>) -> Result<(), ValidateAsActionsError>
-    requires { tlases_in buffers.now.tlases.now ≤ (layout 4).most }
-    ensures { checked_cause result ≡ judge_room (lent_with 0 (lent_buffers buffers.now)) }
+fn judge_room(
+    tlases: &[u8],
+    dependency_counts: &[u16],
+    dependencies: &[u16],
+) -> Result<(), ValidateAsActionsError>
+    requires { tlases_in tlases.now ≤ (layout 4).most }
+    ensures { checked_cause result
+        ≡ judge_room (lent_of 0 [] tlases.now dependency_counts.now dependencies.now) }
 {
-    let tlas_count = buffers.tlases.len() / TLAS_SIZE;
-    if buffers.dependency_counts.len() < tlas_count
-        || buffers.dependencies.len() < tlas_count * TLAS_ROOM
-    {
+    let tlas_count = tlases.len() / TLAS_SIZE;
+    if dependency_counts.len() < tlas_count || dependencies.len() < tlas_count * TLAS_ROOM {
         return Err(ValidateAsActionsError::OutputTooShort);
     }
     Ok(())
 }
 
 // The start, judged before all actions.
-#[tactic(auto, using(submit_checks::proofs::Start::judge_at), unfolding(ray_tracing::specs::Submission::judge))]
-pub fn judge_start(buffers: &SubmissionBuffers<'_>) -> Result<(), ValidateAsActionsError>
-    ensures { (n : ℕ) → checked_cause result ≡ judge (lent_with n (lent_buffers buffers.now)) }
+#[tactic(auto, unfolding(ray_tracing::specs::Submission::judge))]
+pub fn judge_start(
+    blases: &[u8],
+    tlases: &[u8],
+    dependency_counts: &[u16],
+    dependencies: &[u16],
+) -> Result<(), ValidateAsActionsError>
+    ensures { (n : ℕ) → checked_cause result
+        ≡ judge (lent_of n blases.now tlases.now dependency_counts.now dependencies.now) }
 {
-    judge_table(buffers.blases, 2)?;
-    judge_table(buffers.tlases, 4)?;
-    judge_room(buffers)?;
-    judge_lists(buffers, (buffers.tlases.len() / TLAS_SIZE) as u16)
+    judge_table(blases, 2)?;
+    judge_table(tlases, 4)?;
+    judge_room(tlases, dependency_counts, dependencies)?;
+    let tlas_count = (tlases.len() / TLAS_SIZE) as u16;
+    judge_lists(blases, tlas_count, dependency_counts, dependencies)
 }

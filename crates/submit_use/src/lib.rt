@@ -4,14 +4,12 @@
 ghost use Rattle.std.specs.Prelude.{◌≡◌, ℕ, ◌≤◌, ◌<◌, get_or};
 ghost use Rattle.std.proofs.Math.Option.{none};
 ghost use Rattle.ray_tracing.specs.Submission as Submission;
-ghost use Rattle.ray_tracing.specs.Submission.{Lent, list_in, most_dependencies, first, judge, lent_with, lent_buffers};
+ghost use Rattle.ray_tracing.specs.Submission.{Lent, list_in, most_dependencies, first, judge, lent_of, buffers_of};
 ghost use Rattle.ray_tracing.specs.Submission.{unusable_blas, unusable, use_tlas};
 ghost use Rattle.submit_checks.specs.Outcome.{checked_cause, Acts};
-ghost use Rattle.submit_checks.specs.Known.{blases_in, tlases_in, Inside, HasRoom};
+ghost use Rattle.submit_checks.specs.Known.{blases_in, tlases_in, Inside, ListRoom};
 
-use ray_tracing::{
-    Blas, BlasId, SubmissionBuffers, TLAS_ROOM, TLAS_SIZE, TlasId, ValidateAsActionsError,
-};
+use ray_tracing::{Blas, BlasId, TLAS_ROOM, TLAS_SIZE, TlasId, ValidateAsActionsError};
 use records::tlas_at;
 use submit_checks::{blas_of, judge_tlas};
 
@@ -51,33 +49,43 @@ fn use_list(
 
 // A use: 43, then its list.
 #[tactic(auto, unfolding(ray_tracing::specs::Submission::tlas_in, ray_tracing::specs::Submission::list_in))]
-fn use_tlas(buffers: &SubmissionBuffers<'_>, tlas: TlasId) -> Result<(), ValidateAsActionsError>
-    requires inside { tlas.0 < tlases_in buffers.now.tlases.now }
-    requires list_room { HasRoom (lent_buffers buffers.now) }
-    requires few { get_or buffers.now.dependency_counts.now tlas.0 0 ≤ most_dependencies }
-    requires listed { Inside (list_in buffers.now.dependency_counts.now buffers.now.dependencies.now tlas.0)
-        (blases_in buffers.now.blases.now) }
-    ensures { checked_cause result ≡ unusable (lent_with 0 (lent_buffers buffers.now)) tlas.0 }
+fn use_tlas(
+    blases: &[u8],
+    tlases: &[u8],
+    dependency_counts: &[u16],
+    dependencies: &[u16],
+    tlas: TlasId,
+) -> Result<(), ValidateAsActionsError>
+    requires inside { tlas.0 < tlases_in tlases.now }
+    requires list_room { ListRoom (tlases_in tlases.now) dependency_counts.now dependencies.now }
+    requires listed { (get_or dependency_counts.now tlas.0 0 ≤ most_dependencies)
+        × Inside (list_in dependency_counts.now dependencies.now tlas.0) (blases_in blases.now) }
+    ensures { checked_cause result
+        ≡ unusable (lent_of 0 blases.now tlases.now dependency_counts.now dependencies.now) tlas.0 }
 {
     let t = tlas.0 as usize;
-    let own = tlas_at(buffers.tlases, t * TLAS_SIZE).built_index;
+    let own = tlas_at(tlases, t * TLAS_SIZE).built_index;
     if own == 0 {
         return Err(ValidateAsActionsError::UsedUnbuiltTlas(tlas));
     }
     let start = t * TLAS_ROOM;
-    let end = start + buffers.dependency_counts[t] as usize;
-    use_list(buffers.blases, own, tlas, &buffers.dependencies[start..end])
+    let end = start + dependency_counts[t] as usize;
+    use_list(blases, own, tlas, &dependencies[start..end])
 }
 
 // A use leaves what is lent.
 #[tactic(auto, using(crate::proofs::Laws::use_steps))]
 pub fn use_action(
-    buffers: &SubmissionBuffers<'_>,
+    blases: &[u8],
+    tlases: &[u8],
+    dependency_counts: &[u16],
+    dependencies: &[u16],
     tlas: TlasId,
 ) -> Result<(), ValidateAsActionsError>
-    requires { judge (lent_with 0 (lent_buffers buffers.now)) ≡ none }
-    ensures { (n : ℕ) → Acts n (lent_buffers buffers.now) (use_tlas tlas.0) result n (lent_buffers buffers.now) }
+    requires { judge (lent_of 0 blases.now tlases.now dependency_counts.now dependencies.now) ≡ none }
+    ensures { let x = buffers_of blases.now tlases.now dependency_counts.now dependencies.now in
+        (n : ℕ) → Acts n x (use_tlas tlas.0) result n x }
 {
-    judge_tlas(buffers.tlases, tlas)?;
-    use_tlas(buffers, tlas)
+    judge_tlas(tlases, tlas)?;
+    use_tlas(blases, tlases, dependency_counts, dependencies, tlas)
 }
