@@ -61,7 +61,10 @@ fn write_offsets(of: RunningTotal, tables: &BuildTables<'_>, out: &mut [u64])
     let mut total = 0;
     for i in 0..structures(of, tables) {
         out[i] = total;
-        total = add_rounded(total, build_scratch_size(of, tables, i), alignment).unwrap();
+        let Some(sum) = add_rounded(total, build_scratch_size(of, tables, i), alignment) else {
+            return;
+        };
+        total = sum;
     }
 }
 

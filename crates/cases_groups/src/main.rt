@@ -18,6 +18,18 @@ fn open(rt: &impl Print, groups: &[u8], slots: &mut [u8]) -> io::Result<()> {
     cases::print_line(rt, &line)
 }
 
+// Each array is set up at the head of the function that fills it, before any call: else it is set up twice.
+fn open_into(rt: &impl Print, groups: &[u8], room: usize) -> io::Result<()> {
+    let mut slots = [165u8; 65536];
+    open(rt, groups, cases::first(&mut slots, room))
+}
+
+fn open_input(rt: &(impl Input + Print), length: usize, room: usize) -> io::Result<()> {
+    let mut groups = [0u8; 65536];
+    let n = cases::fill(rt, &mut groups, length);
+    open_into(rt, &groups[..n], room)
+}
+
 // One input; false at the end of all.
 fn next_case(rt: &(impl Input + Print)) -> io::Result<bool> {
     let length = cases::next_u32(rt);
@@ -25,10 +37,7 @@ fn next_case(rt: &(impl Input + Print)) -> io::Result<bool> {
     if room == cases::END {
         return Ok(false);
     }
-    let mut groups = [0u8; 65536];
-    let n = cases::fill(rt, &mut groups, length);
-    let mut slots = [165u8; 65536];
-    open(rt, &groups[..n], cases::first(&mut slots, room))?;
+    open_input(rt, length, room)?;
     Ok(true)
 }
 

@@ -13,6 +13,18 @@ fn write(rt: &impl Print, sheet: &[u8], out: &mut [u8]) -> io::Result<usize> {
     Ok(a.written as usize)
 }
 
+// The array is set up at the head of the function that fills it, before any call: else it is set up twice.
+fn write_input(
+    rt: &(impl Input + Print),
+    length: usize,
+    room: usize,
+    out: &mut [u8],
+) -> io::Result<usize> {
+    let mut sheet = [0u8; 65536];
+    let n = cases::fill(rt, &mut sheet, length);
+    write(rt, &sheet[..n], cases::first(out, room))
+}
+
 // The next sheet written into the room that it says; bytes as `write`, or END at the end of the input.
 fn write_next(rt: &(impl Input + Print), out: &mut [u8]) -> io::Result<usize> {
     let length = cases::next_u32(rt);
@@ -20,9 +32,7 @@ fn write_next(rt: &(impl Input + Print), out: &mut [u8]) -> io::Result<usize> {
     if room == cases::END {
         return Ok(cases::END);
     }
-    let mut sheet = [0u8; 65536];
-    let n = cases::fill(rt, &mut sheet, length);
-    write(rt, &sheet[..n], cases::first(out, room))
+    write_input(rt, length, room, out)
 }
 
 fn print_same(rt: &impl Print, a: &[u8], b: &[u8]) -> io::Result<()> {

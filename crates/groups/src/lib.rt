@@ -11,7 +11,17 @@ ghost use Rattle.groups.specs.Items.{Within, items_at};
 use groups_judge::judge_groups;
 use groups_open::open_group;
 use ray_tracing::{MOST_GROUPS, MOST_SLOTS, OpenGroupsError, SLOT_SIZE};
-use wire::{put_bytes, u16_at};
+use wire::{put_u64, u16_at, u64_at};
+
+// A slot's bytes, as seven numbers of 8.
+fn put_slot(slots: &mut [u8], to: usize, groups: &[u8], at: usize)
+    requires { (to + size 8 ≤ length slots.old) × (at + size 8 ≤ length groups.now) }
+    ensures { slots.new ≡ sets slots.old to (take (size 8) (drop at groups.now)) }
+{
+    for k in 0..7 {
+        put_u64(slots, to + 8 * k, u64_at(groups, at + 8 * k));
+    }
+}
 
 // The items at these places, one behind the other: an item that is a slot has the bytes of a record of section 8.
 fn put_slots(groups: &[u8], places: &[usize], slots: &mut [u8])
@@ -20,7 +30,7 @@ fn put_slots(groups: &[u8], places: &[usize], slots: &mut [u8])
 {
     let mut to = 0;
     for at in places {
-        put_bytes(slots, to, &groups[*at..*at + SLOT_SIZE]);
+        put_slot(slots, to, groups, *at);
         to += SLOT_SIZE;
     }
 }

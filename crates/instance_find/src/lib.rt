@@ -11,10 +11,10 @@ use ray_tracing::{BLAS_SIZE, BlasId};
 use records::handle_of;
 
 // The most Blases that are indexed: as many as section 2 may have.
-const MOST_INDEXED: usize = 128;
+pub const MOST_INDEXED: usize = 128;
 
 // A prime, so that addresses in steps of any power of two fall into buckets of their own.
-const BUCKETS: usize = 257;
+pub const BUCKETS: usize = 257;
 
 // Blases with an index: for each bucket the number of Blases up to its last one, and for each Blas the number up to the last before
 // it in its bucket; 0 where there is none. Of more Blases than are indexed it says nothing. A byte a cell: an `Option<u8>` takes two, and all
@@ -22,8 +22,8 @@ const BUCKETS: usize = 257;
 #[derive(Clone, Copy)]
 pub struct BlasIndex<'a> {
     pub blases: &'a [u8],
-    last: [u8; BUCKETS],
-    before: [u8; MOST_INDEXED],
+    pub last: [u8; BUCKETS],
+    pub before: [u8; MOST_INDEXED],
     ghost indexed: { Indexed blases.now last before },
 }
 

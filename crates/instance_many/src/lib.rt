@@ -158,6 +158,7 @@ pub fn append_instances(
 {
     judge_many(tlases, blases, tlas, items, instances.len(), used)?;
     let count = items.len() / LENT_SIZE;
+    let end = used + count * INSTANCE_SIZE;
     put_many(blases, items, count, instances, used);
-    Ok(used + count * INSTANCE_SIZE)
+    Ok(end)
 }

@@ -16,7 +16,7 @@ outcome_after scratch counter x actions lists = submission_outcome counter (part
 abbrev pub accepted_lines : Option ℕ → ℕ → Tables → List ℕ → Outputs → List ℕ → List ℕ
 accepted_lines scratch counter x actions o lists =
     build_line 0 0 (bare 0)
-    ++ (recorded_lines scratch x o
+    ++ (recorded_lines scratch x.entries x.packages o.blas_offsets o.tlas_offsets o.staging_ranges
     ++ outcome_lines (places (is_some scratch) actions) (outcome_after scratch counter x actions lists))
 
 -- and what they refuse

@@ -47,7 +47,16 @@ fn put_lines(
     ensures refuses { Refuses result.refusal (accepted_refusal scratch counter (lent_tables tables.now) actions.now lists.now) }
 {
     let built = put_build_line(out, no_refusal());
-    let end = put_plan(scratch, tables, outputs, out, built);
+    let end = put_plan(
+        scratch,
+        tables.entries,
+        tables.packages,
+        &*outputs.blas_offsets,
+        &*outputs.tlas_offsets,
+        &*outputs.staging_ranges,
+        out,
+        built,
+    );
     put_submission(counter, tables, scratch.is_some(), actions, lists, out, end)
 }
 

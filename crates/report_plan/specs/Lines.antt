@@ -2,7 +2,6 @@
 use Rattle.std.specs.Prelude.{ℕ, zero, suc, ◌+◌, ◌*◌, List, [], ◌∷◌, ◌++◌, get_or, Option, Some, None}
 use Rattle.ray_tracing.specs.Layout.{layout, size}
 use Rattle.ray_tracing.specs.Records.{entry_at, package_at}
-use Rattle.ray_tracing.specs.Plan.{Tables, Outputs}
 use Rattle.ray_tracing.specs.Report.{line, word_scratch, word-blas, word-tlas}
 use Rattle.ray_tracing.specs.Sizes.{longest_line}
 use Rattle.ray_tracing.specs.Parts.{packages_in, entries_in}
@@ -33,10 +32,11 @@ plan_lines size entries packages blas-offsets tlas-offsets staging-ranges =
     ++ (blas_lines_of entries blas-offsets 0 (entries_in entries)
     ++ tlas_lines_of packages tlas-offsets staging-ranges 0 (packages_in packages))
 
--- of a build that is recorded, by its scratch size, if it is, with the outputs that it left
-abbrev pub recorded_lines : Option ℕ → Tables → Outputs → List ℕ
-recorded_lines None x o = []
-recorded_lines (Some size) x o = plan_lines size x.entries x.packages o.blas_offsets o.tlas_offsets o.staging_ranges
+-- of a build that is recorded, by its scratch size, if it is
+abbrev pub recorded_lines : Option ℕ → List ℕ → List ℕ → List ℕ → List ℕ → List ℕ → List ℕ
+recorded_lines None entries packages blas-offsets tlas-offsets staging-ranges = []
+recorded_lines (Some size) entries packages blas-offsets tlas-offsets staging-ranges =
+    plan_lines size entries packages blas-offsets tlas-offsets staging-ranges
 
 -- the most bytes of those
 abbrev pub longest_plan : ℕ

@@ -7,11 +7,10 @@ ghost use Rattle.ray_tracing.specs.Causes.{cause};
 ghost use Rattle.ray_tracing.specs.Report.{word-build, word-blas, word-tlas, build_line};
 ghost use Rattle.ray_tracing.specs.Sizes.{longest_line};
 ghost use Rattle.ray_tracing.specs.Parts.{packages_in, entries_in};
-ghost use Rattle.ray_tracing.specs.Plan.{lent_tables, lent_outputs};
 ghost use Rattle.report_text.specs.Put.{Put};
 ghost use Rattle.report_plan.specs.Lines.{blas_line, blas_lines_of, tlas_line, tlas_lines_of, recorded_lines, longest_plan};
 
-use ray_tracing::{BuildOutputs, BuildTables, ENTRY_SIZE, PACKAGE_SIZE};
+use ray_tracing::{ENTRY_SIZE, PACKAGE_SIZE};
 use report_text::put_line;
 use report_words::Refusal;
 use wire::u16_at;
@@ -97,29 +96,27 @@ pub fn put_build_line(out: &mut [u8], v: Refusal) -> usize
 // The lines below it, if the build is recorded, with its scratch size.
 pub fn put_plan(
     scratch: Option<u64>,
-    tables: &BuildTables<'_>,
-    outputs: &BuildOutputs<'_>,
+    entries: &[u8],
+    packages: &[u8],
+    blas_offsets: &[u64],
+    tlas_offsets: &[u64],
+    staging_ranges: &[u64],
     out: &mut [u8],
     at: usize,
 ) -> usize
-    requires entries_bound { (entries_in tables.now.entries.now ≤ (layout 5).most)
-        × (packages_in tables.now.packages.now ≤ (layout 7).most) }
-    requires entries_in_bounds { entries_in tables.now.entries.now ≤ length outputs.now.blas_offsets.now }
-    requires packages_in_bounds { packages_in tables.now.packages.now ≤ length outputs.now.tlas_offsets.now }
-    requires packages_in_bounds_2 { (packages_in tables.now.packages.now * 2 ≤ length outputs.now.staging_ranges.now)
+    requires entries_bound { (entries_in entries.now ≤ (layout 5).most) × (packages_in packages.now ≤ (layout 7).most) }
+    requires entries_in_bounds { entries_in entries.now ≤ length blas_offsets.now }
+    requires packages_in_bounds { packages_in packages.now ≤ length tlas_offsets.now }
+    requires packages_in_bounds_2 { (packages_in packages.now * 2 ≤ length staging_ranges.now)
         × (at + longest_plan ≤ length out.old) }
-    ensures { Put out.old at (recorded_lines scratch (lent_tables tables.now) (lent_outputs outputs.now)) result out.new }
+    ensures { Put out.old at
+        (recorded_lines scratch entries.now packages.now blas_offsets.now tlas_offsets.now staging_ranges.now)
+        result out.new }
 {
     let Some(size) = scratch else {
         return at;
     };
     let end = put_line(out, at, b"scratch", &[size]);
-    let next = put_blas_lines(tables.entries, &*outputs.blas_offsets, out, end);
-    put_tlas_lines(
-        tables.packages,
-        &*outputs.tlas_offsets,
-        &*outputs.staging_ranges,
-        out,
-        next,
-    )
+    let next = put_blas_lines(entries, blas_offsets, out, end);
+    put_tlas_lines(packages, tlas_offsets, staging_ranges, out, next)
 }

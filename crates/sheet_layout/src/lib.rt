@@ -48,11 +48,8 @@ pub fn size_of(version: Version, section: usize) -> usize
     requires { section < 10 }
     ensures { result ≡ size_in version section }
 {
-    if section == 6 {
-        geometry_size(version)
-    } else {
-        narrow_size(section)
-    }
+    let wider = geometry_size(version) - GEOMETRY_SIZE;
+    narrow_size(section) + usize::from(section == 6) * wider
 }
 
 // The most records of a section.

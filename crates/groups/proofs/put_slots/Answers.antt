@@ -11,12 +11,11 @@ loop-at-preserved c =
     let l = c.loop-at in
     let k = l.at-index in
     let at = get_or places k 0 in
-    let more : k < length places = omega arith in
-    let item : at + 56 - at ≡ 56 = omega arith in (
+    let more : k < length places = omega arith in (
       omega arith,
       l.invariant.1
           ∙ sym
-          (ap (λ x. sets x (l.to + 56) (items_at s (drop (k + 1) places))) (rw item at c.put_bytes.ensures)
+          (ap (λ x. sets x (l.to + 56) (items_at s (drop (k + 1) places))) c.put_slot.ensures
           ∙ put_next s places l.slots l.to k more (c.requires.0 k more)),
     )
 

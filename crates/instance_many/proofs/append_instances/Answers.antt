@@ -45,8 +45,8 @@ put_many-requires-clause-by_index c k h =
     let both = inside-narrow (tlas_of a.tlases.now a.tlas.0) a.blases.now (lent_instance a.items.now k) (may.each k h) in
     record { inside = both.0; narrow = both.1 }
 
-pub overflow_add-result : goal.overflow_add-result
-overflow_add-result c =
+pub overflow_add-end : goal.overflow_add-end
+overflow_add-end c =
     let a = c.args in
     grind (arith, common_steps, judged_fine a.tlases.now a.blases.now a.tlas a.items.now (length a.instances.now) a.used)
 

@@ -17,7 +17,7 @@ recorded-most :
     (scratch : Option ℕ) (x : Tables) (o : Outputs)
     → entries_in x.entries ≤ (layout 5).most
     → packages_in x.packages ≤ (layout 7).most
-    → length (recorded_lines scratch x o) ≤ longest_plan
+    → length (recorded_lines scratch x.entries x.packages o.blas_offsets o.tlas_offsets o.staging_ranges) ≤ longest_plan
 recorded-most None x o h k = omega arith
 recorded-most (Some size) x o h k = plan-most size x.entries x.packages o.blas_offsets o.tlas_offsets o.staging_ranges h k
 

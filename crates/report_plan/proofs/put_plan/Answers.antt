@@ -15,7 +15,7 @@ pub put_tlas_lines-requires-clause-word_tlas_in_bounds : goal.put_tlas_lines-req
 put_tlas_lines-requires-clause-word_tlas_in_bounds c =
     let blases = c.put_blas_lines-next.ensures in
     let scratch = c.put_line-end.ensures in
-    let entries = c.args.tables.now.entries.now in
+    let entries = c.args.entries.now in
     omega (
       arith,
       c.requires,
@@ -24,7 +24,7 @@ put_tlas_lines-requires-clause-word_tlas_in_bounds c =
       line-most word_scratch (c.in-Some.size ∷ []),
       put_same_length blases,
       blases.ends,
-      blas_lines-most entries c.args.outputs.now.blas_offsets.now 0 (entries_in entries),
+      blas_lines-most entries c.args.blas_offsets.now 0 (entries_in entries),
     )
 
 pub returns : goal.returns
