@@ -4,6 +4,7 @@ README's picture of the families, from crates.txt; `--rests` its table of what e
 import collections
 import pathlib
 import re
+import shutil
 import sys
 
 sys.path.insert(0, str(pathlib.Path(__file__).resolve().parent))
@@ -163,6 +164,14 @@ for source in sorted((root / "crates").glob("*/src/**/*.rt")):
     text = source.read_text(encoding="utf-8")
     name = source.relative_to(root)
     crate = name.parts[1]
+    # a conversion promises by its `from_gives`, a public trait's function by an `ensures` in the trait
+    for made, block in re.findall(r"^impl(?:<[^>\n]*>)? (From<[^\n]*) \{$(.*?)^\}$", text, re.M | re.S):
+        if not re.search(r"^    ghost from_gives = ", block, re.M):
+            faults.append(f"{name}: {made} has no from_gives")
+    for trait in re.findall(r"^pub trait .*?^\}$", text, re.M | re.S):
+        for function in re.findall(r"^    fn .*?;$", trait, re.M | re.S):
+            if "ensures" not in function:
+                faults.append(f"{name}: {function.split('(')[0].strip()} of a trait has no ensures")
     for match in re.finditer(r'^[ \t]*pub (?:extern "C" )?fn (\w+)', text, re.M):
         function = match.group(1)
         body = re.search(r"^[ \t]*\{[ \t]*$", text[match.start() :], re.M)
@@ -184,13 +193,25 @@ for source in sorted((root / "crates").glob("*/src/**/*.rt")):
 
 
 def bodies(crate):
-    """The bodies of a crate's functions without comments, and which crate has what it uses."""
+    """The bodies of a crate's functions and methods without comments, and which crate has what it uses."""
     text = re.sub(r"//.*", "", read(f"crates/{crate}/src/lib.rt"))
-    functions = re.findall(r"^(?:pub )?fn (\w+)\((.*?^\})", text, re.M | re.S)
+    functions = re.findall(r"^( *)(?:pub )?fn (\w+)\(.*?^\1\{$(.*?)^\1\}$", text, re.M | re.S)
     brought = {n.strip(): of for of, names in re.findall(r"^use (\w+)::\{?([\w\s,]+)\}?;", text, re.M) for n in names.split(",")}
-    return {name: re.split(r"(?:^| )\{$", rest, maxsplit=1, flags=re.M)[-1] for name, rest in functions}, brought
+    return {name: body for _, name, body in functions}, brought
 
 
+def methods():
+    """The bodies of the library's methods of u64, as the toolchain at hand has them."""
+    rt = shutil.which("rt")
+    folder = pathlib.Path(rt).resolve().parents[1] / "rattle" / "core" / "src" / "int" if rt else root / "no toolchain"
+    found = {}
+    for file in sorted(folder.rglob("u64.rt")):
+        text = re.sub(r"//.*", "", file.read_text(encoding="utf-8"))
+        found.update(re.findall(r"^    pub const fn (\w+)\(.*?^    \{$(.*?)^    \}$", text, re.M | re.S))
+    return found
+
+
+library = methods()
 past = re.search(r".*?if is_power_of_two\(alignment\) \{\s*return [^;]*;\s*\}", bodies("scratch")[0].get("align_to", ""), re.S)
 way = {"scratch::align_to": past and past.group()}
 todo = list(way)
@@ -201,15 +222,14 @@ for at in todo:
         continue
     if re.search(r"[/%]", way[at]):
         faults.append(f"{at} divides on the way of a power of two")
+    own, brought = ({}, {}) if crate == "u64" else bodies(crate)
     for method, path, name in re.findall(r"(\.)?(?:(\w+)::)?\b([a-z]\w*)\(", way[at]):
-        if method:
-            # of the library's methods those that divide nothing
-            if name not in {"checked_add", "is_power_of_two"}:
-                faults.append(f"{at} calls the method {name} on the way of a power of two")
+        # a method of a crate's own is read where it stands, any other as the library's; the compiler has this one itself, an instruction
+        if method and name == "count_ones" and name not in own:
             continue
-        called = f"{path or bodies(crate)[1].get(name, crate)}::{name}"
+        called = f"u64::{name}" if method and name not in own else f"{path or brought.get(name, crate)}::{name}"
         if name not in {"if", "while", "match", "return"} and called not in way:
-            way[called] = bodies(called.split("::")[0])[0].get(name)
+            way[called] = library.get(name) if called.startswith("u64::") else bodies(called.split("::")[0])[0].get(name)
             todo.append(called)
 
 # ---- definitions: a name has one meaning over all specs
@@ -240,8 +260,7 @@ for file in sorted((root / "crates").glob("**/*")):
         for word in re.findall(r"[A-Za-z]+", re.sub(r"([a-z])([A-Z])", r"\1 \2", code.replace("_", " "))):
             if word.lower() in TRADE:
                 faults.append(f"{file.relative_to(root)}:{number}: a word of the trade: {word}")
-        # what names the prover's lemmas stands in one line, as `rt fmt` lays it
-        words = re.match(r"(?:ghost )?use |\s*(?://|--|#!?\[tactic)", line) or 'b"' in line
+        words = re.match(r"(?:ghost )?use |\s*(?://|--)", line) or 'b"' in line
         if len(line) > 132 and not words and (file.suffix == ".rt" or "specs" in file.parts):
             faults.append(f"{file.relative_to(root)}:{number}: {len(line)} columns")
 
