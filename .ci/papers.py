@@ -195,9 +195,11 @@ for source in sorted((root / "crates").glob("*/src/**/*.rt")):
 def bodies(crate):
     """The bodies of a crate's functions and methods without comments, and which crate has what it uses."""
     text = re.sub(r"//.*", "", read(f"crates/{crate}/src/lib.rt"))
-    functions = re.findall(r"^( *)(?:pub )?fn (\w+)\(.*?^\1\{$(.*?)^\1\}$", text, re.M | re.S)
+    functions = collections.defaultdict(str)
+    for indent, name, rest in re.findall(r"^( *)(?:pub )?fn (\w+)\((.*?)^\1\}$", text, re.M | re.S):
+        functions[("." if indent else "") + name] += re.split(r"(?:^| )\s*\{$", rest, maxsplit=1, flags=re.M)[-1]
     brought = {n.strip(): of for of, names in re.findall(r"^use (\w+)::\{?([\w\s,]+)\}?;", text, re.M) for n in names.split(",")}
-    return {name: body for _, name, body in functions}, brought
+    return functions, brought
 
 
 def methods():
@@ -225,11 +227,12 @@ for at in todo:
     own, brought = ({}, {}) if crate == "u64" else bodies(crate)
     for method, path, name in re.findall(r"(\.)?(?:(\w+)::)?\b([a-z]\w*)\(", way[at]):
         # a method of a crate's own is read where it stands, any other as the library's; the compiler has this one itself, an instruction
-        if method and name == "count_ones" and name not in own:
+        if method and name == "count_ones" and "." + name not in own:
             continue
-        called = f"u64::{name}" if method and name not in own else f"{path or brought.get(name, crate)}::{name}"
+        called = f"{crate}::.{name}" if method and "." + name in own else f"u64::{name}" if method else f"{path or brought.get(name, crate)}::{name}"
         if name not in {"if", "while", "match", "return"} and called not in way:
-            way[called] = library.get(name) if called.startswith("u64::") else bodies(called.split("::")[0])[0].get(name)
+            of, own_name = called.split("::")
+            way[called] = library.get(name) if of == "u64" else bodies(of)[0].get(own_name)
             todo.append(called)
 
 # ---- definitions: a name has one meaning over all specs
