@@ -58,10 +58,10 @@ module _
 
 -- a part of an action, and the end
 
-run_part : (i : ℕ) (l : Lent) {rest : List Action} {o : Outcome} → rest ≡ malformed ∷ [] → later i (run l rest) ≡ o → (refused i (bare 5) leaving l) ≡ o
+pub run_part : (i : ℕ) (l : Lent) {rest : List Action} {o : Outcome} → rest ≡ malformed ∷ [] → later i (run l rest) ≡ o → (refused i (bare 5) leaving l) ≡ o
 run_part i l s inv = rw (s, run_step i l malformed [], malformed-step l, add-zero) at inv
 
-run_done : (i : ℕ) (l : Lent) {rest : List Action} {o : Outcome} → rest ≡ [] → later i (run l rest) ≡ o → (accepted leaving l) ≡ o
+pub run_done : (i : ℕ) (l : Lent) {rest : List Action} {o : Outcome} → rest ≡ [] → later i (run l rest) ≡ o → (accepted leaving l) ≡ o
 unfolding run
 run_done i l s inv = sym (rw s) ∙ inv
 
